@@ -9,9 +9,10 @@ Three tables are printed:
   if --turns says no other number. The median, lines a second, and the syncs of one run, if there is `strace`.
 - So many lines (2,000) one at a time, each after the reply before: the median and the 99th percentile of a line that
   is accepted and of one that is not. Beside it a write of 100 bytes and a sync of the same disk, by this script.
-- So many operations (1,000,000), of one job execution that is stopped again and again: without a log, into a new log, and an
-  opening of that log with no line, by turns. The median of the seconds, and peak memory. Beside it the bytes of that log,
-  written at once and synced by this script: an opening writes them too, and no program over that disk takes less.
+- So many operations (1,000,000), of one job execution that is stopped again and again: without a log, into a new log, and two
+  openings of that log with no line, by turns: sealed, as its run left it, and not sealed, as a crash may leave it. The median of
+  the seconds, and peak memory. Beside it the bytes of that log, written at once and synced by this script: an opening of a log
+  that isn't sealed writes them too, and no program over that disk takes less.
 
 The log stands in DIR, else in the folder of temporary files: its disk decides. Each run is compared with what it has to write.
 """
@@ -38,6 +39,7 @@ CHUNK = {"reader": {"ref": "count:5"}, "writer": {"ref": "sink"}}
 NIGHTLY = {"jobs": [{"id": "nightly", "elements": [{"kind": "step", "id": "s", "chunk": CHUNK}]}]}
 STOPPED = {"jobs": [{"id": "a", "elements": [{"kind": "step", "id": "s", "batchlet": {"ref": "ok"}}]}]}
 SYNCS, COPIES = 1000, 5
+SEAL, SHUT = b"sss", b"000"
 MIB = 1024
 
 
@@ -218,22 +220,41 @@ def median_of(runs: Sequence[Run]) -> Run:
     return Run(statistics.median(one.seconds for one in runs), max(one.memory for one in runs), runs[0].told)
 
 
+def unseal(log: Path) -> None:
+    """Leaves a log as a crash may: with a shut gate at its end."""
+    with log.open("r+b") as file:
+        file.seek(-len(SEAL), os.SEEK_END)
+        if file.read() != SEAL:
+            sys.exit("the log is not sealed")
+        file.seek(-len(SEAL), os.SEEK_END)
+        file.write(SHUT)
+        file.flush()
+        os.fdatasync(file.fileno())
+
+
 def measure_openings(words: Words, count: int) -> None:
-    """A full history without a log, into a new log, and an opening of that log, by turns."""
+    """A full history without a log, into a new log, and openings of that log, by turns."""
     stop = text_of([{"do": "stop", "by": 1, "at": 0, "execution": 1}])
     ahead = text_of([STOPPED, {"do": "start", "by": 1, "at": 0, "job": "a"}, {"do": "claim", "by": 1, "at": 0}])
     whole, log = ahead + stop * (count - 2), words.folder / "full.log"
-    plain, logged, opened = list[Run](), list[Run](), list[Run]()
+    plain, logged, opened, made_anew = list[Run](), list[Run](), list[Run](), list[Run]()
     for _ in range(words.turns):
         log.unlink(missing_ok=True)
         plain.append(run(words, whole, None))
         logged.append(run(words, whole, log))
         opened.append(run(words, text_of([STOPPED]), log))
-        if plain[-1].told != logged[-1].told or opened[-1].told:
+        unseal(log)
+        made_anew.append(run(words, text_of([STOPPED]), log))
+        if plain[-1].told != logged[-1].told or opened[-1].told or made_anew[-1].told:
             sys.exit("the replies with a log differ from those without one")
     want_operations(log, count)
-    named = (("a script without a log", plain), ("a script into a new log", logged), ("an opening of that log", opened))
-    table = [(what, median_of(runs)) for what, runs in named]
+    named = {
+        "a script without a log": plain,
+        "a script into a new log": logged,
+        "an opening of that log": opened,
+        "an opening of that log, not sealed": made_anew,
+    }
+    table = [(what, median_of(runs)) for what, runs in named.items()]
     least = table[0][1].seconds
     rows = [[what, f"{one.seconds:.2f}", f"{one.seconds / least:.2f}", f"{one.memory:,.0f}"] for what, one in table]
     rows.append(["the bytes of that log, written and synced by this script", f"{seconds_of_copy(log):.2f}", "", ""])

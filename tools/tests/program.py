@@ -11,7 +11,7 @@ from dataclasses import dataclass, field, replace
 from pathlib import Path
 from subprocess import PIPE
 
-from log_trial.log_file import SHUT, Refused, read
+from log_trial.log_file import SEAL, SHUT, Refused, read
 from repository import ROOT
 
 CRATE = ROOT / "crates" / "batchctl"
@@ -71,12 +71,12 @@ def cut_of(log: Path) -> Path:
 
 
 def tail_of(file: bytes) -> bytes:
-    """The bytes behind the records of a log, if it has no clean end."""
+    """The bytes behind the records of a log, if it is neither sealed nor at rest."""
     try:
         tail = file[read(file).end :]
     except Refused:
         return b""
-    return b"" if tail == SHUT else tail
+    return b"" if tail in (SHUT, SEAL) else tail
 
 
 def tail_at(log: Path) -> bytes:

@@ -9,3 +9,4 @@ pub mod Ending
 pub mod Taking
 pub mod Building
 pub mod Readying
+pub mod Answering

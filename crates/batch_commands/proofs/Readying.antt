@@ -1,40 +1,55 @@
 -- A log that is made ready, and the lines over it.
-use Rattle.std.proofs.Common.{◌≡◌, ◌∙◌, inl, inr, ℕ, List, [], ◌∷◌, ◌++◌, Result, Ok, Err, refl, sym, ap, subst}
-use Rattle.std.specs.Prelude.{Option, Some, None, IsErrAnd}
+use Rattle.std.proofs.Common.{◌≡◌, ◌∙◌, inl, inr, ℕ, ◌+◌, List, [], ◌∷◌, ◌++◌, length, take, drop, Bool, true, false, Result, Ok, Err, refl, sym, ap, subst, arith, length-append}
+use Rattle.std.proofs.lemmas.Bool.{false≢true}
+use Rattle.std.proofs.lemmas.List.{append-nil, drop_all, take_at}
+use Rattle.std.specs.Prelude.{Option, Some, None, IsErrAnd, IsTrue}
 use Rattle.jsl_model.specs.Jobs.{JobTree}
+use Rattle.log_host.specs.Host.{Holds}
 use Rattle.log_host.specs.Past.{Call}
-use Rattle.file_host.specs.Making.{AtEachMoment, IsBeforeOrWhole, IsMade, IsOpening, keeping, making, reading as read_calls}
+use Rattle.file_host.specs.Making.{AtEachMoment, IsBeforeOrWhole, IsOpening, IsReady as IsFileReady, keeping, reading as read_calls}
 use Rattle.file_host.specs.declared.file_fault.FileFault.{FileFault}
-use Rattle.durable_log.specs.Logs.{records_of}
+use Rattle.durable_log.specs.Format.{shut, seal}
+use Rattle.durable_log.specs.Logs.{records_of, Reopens}
 use Rattle.script_lines.specs.Device.{Told, Held}
 use Rattle.script_lines.specs.Unread.{Unread, nothing_read}
 use Rattle.script_log.specs.Reading.{reading}
 use Rattle.batch_commands.specs.Devices.{Devices}
-use Rattle.batch_commands.specs.Logging.{AnswersOver, HasFirst, IsBegunFrom, IsCutFrom, IsLogServed, IsReady, IsUnready, TellsUnready, unready_by_file}
+use Rattle.batch_commands.specs.Logging.{AnswersOver, HasFirst, IsBegunFrom, IsCutFrom, IsLogServed, IsReady, IsReopenedFrom, IsSafe, IsUnready, TellsUnready, getting_ready, unready_by_file}
 use Rattle.batch_commands.specs.declared.logged.Unready.{Unready}
 use Rattle.batch_commands.specs.declared.logged_fault.OverLogFault.{OverLogFault}
 
--- the file was made
-pub ready-by : (name line : List ℕ) (d m d' : List Call) (found : Option (List ℕ)) (bytes bytes' cut cut' : List ℕ) → bytes' ≡ bytes → cut' ≡ cut
-    → IsBegunFrom found line (records_of bytes) → IsCutFrom found cut → m ≡ read_calls name found d → d' ≡ making name bytes' ++ keeping name cut' m
-    → AtEachMoment d' (IsBeforeOrWhole bytes') → IsReady name line d d' bytes
-ready-by name line d m d' found bytes bytes' cut cut' bytes_are cut_is begun cut_off read made moments = record {
+-- the file got ready
+pub ready-by : (name line : List ℕ) (d m d' : List Call) (found : Option (List ℕ)) (bytes cut : List ℕ) (reopens : Bool) (end : ℕ)
+    → IsBegunFrom found line (records_of bytes) → IsCutFrom found cut → (IsTrue reopens → IsReopenedFrom found bytes end) → m ≡ read_calls name found d → d' ≡ getting_ready reopens name end cut bytes m
+    → IsSafe reopens end bytes d' → IsReady name line d d' bytes
+ready-by name line d m d' found bytes cut reopens end begun cut_off sealed read made moments = record {
   found = found;
   begun = begun;
   cut = cut;
   cut_off = cut_off;
-  calls = made ∙ (λ i. making name (bytes_are i) ++ keeping name (cut_is i) (read i));
-  any_moment = subst (λ (l : List ℕ). AtEachMoment d' (IsBeforeOrWhole l)) bytes_are moments;
+  reopens = reopens;
+  end = end;
+  sealed = sealed;
+  calls = made ∙ ap (getting_ready reopens name end cut bytes) read;
+  any_moment = moments;
 }
 
--- the file was not made
-pub unmade-by : (name line : List ℕ) (d d' : List Call) (found : Option (List ℕ)) (bytes bytes' : List ℕ) (fault : Unready) (why : FileFault) → bytes' ≡ bytes
-    → IsBegunFrom found line (records_of bytes) → AtEachMoment d' (IsBeforeOrWhole bytes') → fault ≡ unready_by_file why → IsUnready name line d d' fault
-unmade-by name line d d' found bytes bytes' fault why bytes_are begun moments is = inr (inr (record {
+-- a file that was made anew
+pub safe-anew : (reopens : Bool) (end : ℕ) (bytes bytes' : List ℕ) (d' : List Call) → reopens ≡ false → bytes' ≡ bytes → AtEachMoment d' (IsBeforeOrWhole bytes') → IsSafe reopens end bytes d'
+safe-anew true end bytes bytes' d' anew same moments = absurd (false≢true (sym anew))
+safe-anew false end bytes bytes' d' anew same moments = subst (λ (l : List ℕ). AtEachMoment d' (IsBeforeOrWhole l)) same moments
+
+-- the file did not get ready
+pub unmade-by : (name line : List ℕ) (d d' : List Call) (found : Option (List ℕ)) (bytes : List ℕ) (reopens : Bool) (end : ℕ) (fault : Unready) (why : FileFault)
+    → IsBegunFrom found line (records_of bytes) → (IsTrue reopens → IsReopenedFrom found bytes end) → IsSafe reopens end bytes d' → fault ≡ unready_by_file why → IsUnready name line d d' fault
+unmade-by name line d d' found bytes reopens end fault why begun sealed moments is = inr (inr (record {
   found = found;
   bytes = bytes;
   begun = begun;
-  any_moment = subst (λ (l : List ℕ). AtEachMoment d' (IsBeforeOrWhole l)) bytes_are moments;
+  reopens = reopens;
+  end = end;
+  sealed = sealed;
+  any_moment = moments;
   why = why;
   named = is;
 }))
@@ -47,10 +62,31 @@ opening-read : (name : List ℕ) (found : Option (List ℕ)) (calls : List Call)
 opening-read name None calls opening = record { no_bytes = opening.no_bytes; no_rename = opening.no_rename }
 opening-read name (Some bytes) calls opening = record { no_bytes = opening.no_bytes; no_rename = opening.no_rename }
 
--- a file that is ready was made
-pub made-by : (name line : List ℕ) (d d' : List Call) (bytes : List ℕ) → IsOpening d → IsReady name line d d' bytes → (n : List ℕ) × IsMade d' n bytes
-made-by name line d d' bytes opening ready =
-    (name, (keeping name ready.cut (read_calls name ready.found d), opening-kept name ready.cut _ (opening-read name ready.found d opening), ready.calls))
+-- a sealed file with a shut gate over its seal
+reopened-holds : (file bytes : List ℕ) (end : ℕ) → Reopens file bytes end → Holds file end shut bytes
+reopened-holds file bytes end r =
+    let front : take end file ≡ r.base = ap (take end) r.before ∙ take_at r.base seal end (sym r.place) in
+    let none : drop (end + 3) file ≡ [] = drop_all (end + 3) file (omega (arith, ap length r.before, length-append r.base seal, r.place)) in
+    r.after ∙ sym (append-nil (r.base ++ shut)) ∙ (λ i. sym front i ++ shut ++ sym none i)
+
+ready-of : (name : List ℕ) (d d' : List Call) (bytes : List ℕ) (reopens : Bool) (found : Option (List ℕ)) (cut : List ℕ) (end : ℕ) → IsOpening d → (reopens ≡ true → IsReopenedFrom found bytes end)
+    → d' ≡ getting_ready reopens name end cut bytes (read_calls name found d) → IsFileReady d' name bytes
+ready-of name d d' bytes true None cut end opening sealed calls = absurd (sealed refl)
+ready-of name d d' bytes true (Some file) cut end opening sealed calls = inr (record {
+  name = name;
+  file = file;
+  before = d;
+  opening = opening;
+  at = end;
+  over = shut;
+  calls_are = calls;
+  bytes_are = reopened-holds file bytes end (sealed refl);
+})
+ready-of name d d' bytes false found cut end opening sealed calls = inl (keeping name cut (read_calls name found d), opening-kept name cut _ (opening-read name found d opening), calls)
+
+-- a log that is ready has a file that is
+pub file-ready : (name line : List ℕ) (d d' : List Call) (bytes : List ℕ) → IsOpening d → IsReady name line d d' bytes → (n : List ℕ) × IsFileReady d' n bytes
+file-ready name line d d' bytes opening ready = (name, ready-of name d d' bytes ready.reopens ready.found ready.cut ready.end opening ready.sealed ready.calls)
 
 -- the lines are answered
 pub lines-by : (name : List ℕ) (x x' : Devices) (m : Told) (p0 p p' : Unread) (line line' : List ℕ) (catalogue : List JobTree) (bytes : List ℕ) (made : List Call) (result : Result Unit OverLogFault)

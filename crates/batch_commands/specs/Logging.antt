@@ -1,16 +1,16 @@
 -- A script over a log, as the program runs it.
-use Rattle.std.specs.Prelude.{ℕ, ◌≡◌, ◌⊎◌, ◌<◌, List, [], ◌∷◌, ◌++◌, length, false, Option, Some, None, Result, Ok, Err}
+use Rattle.std.specs.Prelude.{ℕ, ◌≡◌, ◌⊎◌, ◌<◌, ◌≤◌, ◌+◌, List, [], ◌∷◌, ◌++◌, length, Bool, true, false, Option, Some, None, Result, Ok, Err}
 use Rattle.jsl_model.specs.Jobs.{JobTree}
 use Rattle.jsl_json.specs.Catalogues.{is_out_of_memory}
 use Rattle.jsl_json.specs.declared.fault.ReadFault.{ReadFault}
-use Rattle.log_host.specs.Host.{Outcomes, LeavesOnly}
-use Rattle.log_host.specs.Past.{Call, Past, seen_after, heard_after, left_after, file_faults_after, listener_faults_after}
+use Rattle.log_host.specs.Host.{Outcomes, LeavesOnly, Torn}
+use Rattle.log_host.specs.Past.{Call, Past, seen_after, heard_after, leaves_after, left_after, file_faults_after, listener_faults_after}
 use Rattle.file_host.specs.Calls.{file_calls}
-use Rattle.file_host.specs.Making.{AtEachMoment, IsBeforeOrWhole, IsOpening, keeping, making, reading as read_calls}
+use Rattle.file_host.specs.Making.{AtEachMoment, AtEachMomentOf, IsBeforeOrWhole, IsOpening, keeping, making, resuming, reading as read_calls}
 use Rattle.file_host.specs.declared.file_fault.FileFault.{FileFault}
 use Rattle.file_host.specs.declared.file_fault.FileFault.TheVariants as files
-use Rattle.durable_log.specs.Format.{LogRecord}
-use Rattle.durable_log.specs.Logs.{records_of}
+use Rattle.durable_log.specs.Format.{LogRecord, shut}
+use Rattle.durable_log.specs.Logs.{records_of, Reopens, Unsealed}
 use Rattle.script_lines.specs.Device.{Told, Held, Takes}
 use Rattle.script_lines.specs.Unread.{Unread, nothing_read}
 use Rattle.script_lines.specs.Lines.{LineRead, ShowsFirst}
@@ -21,19 +21,19 @@ use Rattle.script_engine.specs.Script.{catalogue_at}
 use Rattle.script_engine.specs.declared.fault.EngineFault.{EngineFault}
 use Rattle.script_engine.specs.declared.fault.EngineFault.TheVariants as engine
 use Rattle.script_log.specs.Covered.{Covered}
-use Rattle.script_log.specs.Hosts.{State}
+use Rattle.script_log.specs.Hosts.{Hosting, State, hosting}
 use Rattle.script_log.specs.Reading.{Reading, reading, lines_in}
 use Rattle.script_log.specs.Runs.{catalogue_record}
+use Rattle.script_log.specs.declared.fault.RunFault.{RunFault}
+use Rattle.script_log.specs.declared.fault.RunFault.TheVariants as runs
 use Rattle.logged_script.specs.Faults.{IsOpeningFault}
 use Rattle.logged_script.specs.Histories.{is_kept, reply_at}
-use Rattle.logged_script.specs.Logged.{IsAnsweredOver}
+use Rattle.logged_script.specs.Logged.{Ends, IsAnsweredOver}
 use Rattle.logged_script.specs.Openings.{IsBegun, IsCutOff}
 use Rattle.logged_script.specs.Texts.{log_fault_text}
 use Rattle.logged_script.specs.declared.fault.LogFault.TheVariants.{InUse}
 use Rattle.logged_script.specs.declared.opening.OpeningFault.{OpeningFault}
 use Rattle.logged_script.specs.declared.opening.OpeningFault.TheVariants as openings
-use Rattle.logged_script.specs.declared.outcome.LoggedFault.{LoggedFault}
-use Rattle.logged_script.specs.declared.outcome.LoggedFault.TheVariants as logged
 use Rattle.batch_commands.specs.Devices.{Devices}
 use Rattle.batch_commands.specs.declared.logged.Unready.{Unready}
 use Rattle.batch_commands.specs.declared.logged.Unready.TheVariants as unready
@@ -62,15 +62,15 @@ fault_of_engine engine.Read = Read
 fault_of_engine engine.Write = Write
 fault_of_engine engine.OutOfMemory = OutOfMemory
 
-abbrev pub fault_of_logged : LoggedFault → OverLogFault
-fault_of_logged logged.Read = Read
-fault_of_logged logged.Write = Write
-fault_of_logged logged.Log = Log
-fault_of_logged logged.OutOfMemory = OutOfMemory
+abbrev pub fault_of_run : RunFault → OverLogFault
+fault_of_run runs.Read = Read
+fault_of_run runs.Write = Write
+fault_of_run (runs.Log fault) = Log
+fault_of_run runs.OutOfMemory = OutOfMemory
 
-abbrev pub outcome_over : Result Unit LoggedFault → Result Unit OverLogFault
+abbrev pub outcome_over : Result Unit RunFault → Result Unit OverLogFault
 outcome_over (Ok done) = Ok done
-outcome_over (Err fault) = Err (fault_of_logged fault)
+outcome_over (Err fault) = Err (fault_of_run fault)
 
 -- ---- Lines of faults
 
@@ -151,15 +151,34 @@ abbrev pub IsCutFrom : Option (List ℕ) → List ℕ → Type 0
 IsCutFrom None cut = cut ≡ []
 IsCutFrom (Some file) cut = IsCutOff file cut
 
--- THE FILE OF THIS NAME WAS MADE ANEW with these bytes. What was cut off is kept beside it. At each moment a crash leaves what the name stood for
--- before, or the whole new file
+-- the file that was found was sealed, and these are its bytes with a shut gate at this place over its seal
+abbrev pub IsReopenedFrom : Option (List ℕ) → List ℕ → ℕ → Type 0
+IsReopenedFrom None bytes end = ⊥
+IsReopenedFrom (Some file) bytes end = Reopens file bytes end
+
+-- the calls by which a file gets ready: a shut gate is written over the seal of one that goes on; or it is made anew, after what
+-- was cut off is kept beside it
+abbrev pub getting_ready : Bool → List ℕ → ℕ → List ℕ → List ℕ → List Call → List Call
+getting_ready true name end cut bytes before = resuming end shut ++ before
+getting_ready false name end cut bytes before = making name bytes ++ keeping name cut before
+
+-- at each moment of these calls a crash leaves a file that goes on as it was, but for any bytes in place of its seal; or what the
+-- name stood for before, or the whole new file
+abbrev pub IsSafe : Bool → ℕ → List ℕ → List Call → Type 0
+IsSafe true end bytes d' = (file : List ℕ) → end + 3 ≤ length file → AtEachMomentOf file d' (Torn end 3 file)
+IsSafe false end bytes d' = AtEachMoment d' (IsBeforeOrWhole bytes)
+
+-- THE FILE OF THIS NAME GOT READY with these bytes: it was sealed and goes on, or was made anew
 pub record IsReady (name line : List ℕ) (d d' : List Call) (bytes : List ℕ) : Type 0 where
   pub found : Option (List ℕ)
   pub begun : IsBegunFrom found line (records_of bytes)
   pub cut : List ℕ
   pub cut_off : IsCutFrom found cut
-  pub calls : d' ≡ making name bytes ++ keeping name cut (read_calls name found d)
-  pub any_moment : AtEachMoment d' (IsBeforeOrWhole bytes)
+  pub reopens : Bool
+  pub end : ℕ
+  pub sealed : reopens ≡ true → IsReopenedFrom found bytes end
+  pub calls : d' ≡ getting_ready reopens name end cut bytes (read_calls name found d)
+  pub any_moment : IsSafe reopens end bytes d'
 
 -- it could not be opened or read: no draft was made
 abbrev pub IsUnread : List Call → Unready → Type 0
@@ -173,12 +192,15 @@ pub record IsUnrestored (name line : List ℕ) (d d' : List Call) (fault : Unrea
   pub is : IsFaultFrom found line why
   pub named : fault ≡ unready_by_log why
 
--- it was not made: at each moment a crash leaves what the name stood for before, or the whole new file
+-- it did not get ready, and a crash leaves no more than if it had
 pub record IsUnmade (line : List ℕ) (d' : List Call) (fault : Unready) : Type 0 where
   pub found : Option (List ℕ)
   pub bytes : List ℕ
   pub begun : IsBegunFrom found line (records_of bytes)
-  pub any_moment : AtEachMoment d' (IsBeforeOrWhole bytes)
+  pub reopens : Bool
+  pub end : ℕ
+  pub sealed : reopens ≡ true → IsReopenedFrom found bytes end
+  pub any_moment : IsSafe reopens end bytes d'
   pub why : FileFault
   pub named : fault ≡ unready_by_file why
 
@@ -194,7 +216,7 @@ TellsUnready unready.OutOfMemory w w' end = (end ≡ OutOfMemory) × (w' ≡ w)
 
 -- ---- The lines
 
--- the past of a file that was made and of its listener: the content, what was heard, the moment, the failures, and
+-- the past of a file that is ready and of its listener: the content, what was heard, the moment, the failures, and
 -- what a crash since an earlier moment may have left
 abbrev pub seen_of : Past → List ℕ
 seen_of past = seen_after past.start past.calls
@@ -208,19 +230,30 @@ moment_of past = length past.calls
 abbrev pub left_since : Past → ℕ → Outcomes
 left_since past = left_after past.start past.calls
 
+abbrev pub leaves_of : Past → Outcomes
+leaves_of past = leaves_after past.start past.calls
+
+-- what such a past means
+abbrev pub past_meaning : Hosting Past
+past_meaning = hosting seen_of heard_of leaves_of moment_of left_since (λ past. past) (λ past. file_faults_after past.calls) (λ past. listener_faults_after past.calls)
+
 abbrev pub state_in : Past → State
 state_in past = record { file = seen_of past; heard = heard_of past; file_faults = file_faults_after past.calls; listener_faults = listener_faults_after past.calls }
 
--- THE LINES AFTER THE FIRST, over a file that was made with these bytes. At each moment a crash leaves its records
--- and those of the first of the lines, and the writer has taken a beginning of the replies to those. The calls of
--- the disk are those of this file, and the writer took just what its listener heard
+-- THE LINES AFTER THE FIRST, over a file that is ready with these bytes. At each moment a crash leaves its records
+-- and those of the first of the lines, and the writer has taken a beginning of the replies to those. At no moment was the
+-- file sealed, unless all of its bytes were on the disk before. The calls of the disk are those of this file, and the
+-- writer took just what its listener heard
 pub record AnswersOver (bytes : List ℕ) (x : Reading) (made d' : List Call) (w' : Held) (result : Result Unit OverLogFault) : Type 0 where
   pub before : Past
   pub after : Past
   pub made_with : seen_of before ≡ bytes
   pub nothing_heard : heard_of before ≡ []
   pub any_moment : LeavesOnly moment_of left_since before after (Covered is_kept reply_at (records_of bytes) (lines_in x) [])
-  pub outcome : Result Unit LoggedFault
+  pub last : Past
+  pub unsealed : LeavesOnly moment_of left_since before last Unsealed
+  pub outcome : Result Unit RunFault
+  pub sealing : Ends past_meaning outcome last after
   pub ended : IsAnsweredOver (state_in before) x (state_in after) outcome
   pub status : result ≡ outcome_over outcome
   pub calls : d' ≡ file_calls after.calls ++ made
@@ -238,7 +271,7 @@ abbrev pub HasNoLog : List ℕ → Devices → Devices → Result Unit OverLogFa
 HasNoLog name x x' result = (p : Unread) × (line : List ℕ) × (catalogue : List JobTree) × (fault : Unready) × (end : OverLogFault)
     × HasFirst x.told x'.told nothing_read p line catalogue × IsUnready name line x.disk x'.disk fault × (result ≡ Err end) × TellsUnready fault x.held x'.held end
 
--- the lines are answered over a file that was made
+-- the lines are answered over a file that got ready
 abbrev pub AnswersLines : List ℕ → Devices → Devices → Result Unit OverLogFault → Type 0
 AnswersLines name x x' result = (m : Told) × (p p' : Unread) × (line : List ℕ) × (catalogue : List JobTree) × (bytes : List ℕ) × (made : List Call)
     × HasFirst x.told m nothing_read p line catalogue × IsReady name line x.disk made bytes × AnswersOver bytes (reading m x'.told p p') made x'.disk x'.held result

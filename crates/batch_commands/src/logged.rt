@@ -1,8 +1,8 @@
 // A script over a log.
-ghost use Rattle.std.specs.Prelude.{◌≡◌, [], List, ℕ, None, Ok, IfOk, IfErr, IsErrAnd};
+ghost use Rattle.std.specs.Prelude.{◌≡◌, [], List, ℕ, false, None, Ok, IfOk, IfErr, IsErrAnd, IsTrue, OnOk};
 ghost use Rattle.std.specs.Option.{option_map};
 ghost use Rattle.durable_log.specs.Logs.{records_of, IsRest};
-ghost use Rattle.file_host.specs.Making.{IsMade, IsOpening};
+ghost use Rattle.file_host.specs.Making.{IsOpening, IsReady as IsFileReady};
 ghost use Rattle.script_engine.specs.Script.{catalogue_at};
 ghost use Rattle.script_log.specs.Reading.{reading};
 ghost use Rattle.script_log.specs.Runs.{history_of};
@@ -11,21 +11,21 @@ ghost use Rattle.logged_script.specs.Texts.{log_fault_text};
 ghost use Rattle.logged_script.specs.declared.opening.OpeningFault.TheVariants.{OutOfMemory};
 ghost use Rattle.batch_commands.specs.declared.logged_fault.OverLogFault.TheVariants.{Refused};
 ghost use Rattle.batch_commands.specs.Devices.{devices};
-ghost use Rattle.batch_commands.specs.Logging.{AnswersOver, FailsFirst, HasFirst, HasName, IsBegunFrom, IsCutFrom, IsFaultFrom, IsLogServed, IsReady, IsUnready, PutsLine, Tells, TellsFirst, TellsUnready, outcome_over, over_log_exit, unready_by_file, unready_by_log};
+ghost use Rattle.batch_commands.specs.Logging.{AnswersOver, FailsFirst, HasFirst, HasName, IsBegunFrom, IsCutFrom, IsFaultFrom, IsLogServed, IsReady, IsReopenedFrom, IsSafe, IsUnready, PutsLine, Tells, TellsFirst, TellsUnready, getting_ready, outcome_over, over_log_exit, unready_by_file, unready_by_log};
 
 use crate::logged_fault::OverLogFault;
 use crate::main_program::DONE;
 use crate::replies::{flush, put};
 use batch_service::{RestoredLog, ScriptEngine};
-use durable_log::Log;
-use file_host::{Disk, FileFault, FileHost, make_anew, read_file};
+use durable_log::{Log, SHUT};
+use file_host::{Disk, FileFault, FileHost, make_anew, read_file, resume};
 use jsl_model::Catalogue;
 use logged_script::{
-    LogFault, LoggedFault, OpeningFault, answer_restored, catalogue_at, log_fault_text, new_log,
-    restore,
+    LogFault, OpeningFault, answer_restored, catalogue_at, log_fault_text, new_log, restore,
 };
 use script_engine::{EngineFault, Line, OutputBuffer, ReadFault, Sink, Source, fault_text};
 use script_lines::InputBuffer;
+use script_log::RunFault;
 use std::alloc::Global;
 use std::io::Write;
 
@@ -95,7 +95,7 @@ fn tell_first<W: Sink>(alloc: Global, fault: EngineFault, sink: &mut W) -> Resul
 pub(crate) enum Unready {
     /// The log is refused.
     Refused(LogFault),
-    /// The file can't be opened, read or made anew.
+    /// The file can't be opened, read or made ready.
     Failed,
     /// Memory was refused.
     OutOfMemory,
@@ -132,6 +132,7 @@ fn fresh_log(alloc: Global, line: &[u8], catalogue: Catalogue) -> Result<Restore
     ensures rest { IfOk result (λ log. IsRest log.file.bytes.items log.file.rest) }
     ensures answers { IfOk result (λ log. Answers log.engine (history_of (records_of log.file.bytes.items))) }
     ensures cut { IfOk result (λ log. log.cut.items ≡ []) }
+    ensures reopens { IfOk result (λ log. log.reopens ≡ false) }
     ensures fault { IfErr result (λ fault. fault ≡ OutOfMemory) }
 {
     let file = new_log(alloc, line)?;
@@ -139,6 +140,7 @@ fn fresh_log(alloc: Global, line: &[u8], catalogue: Catalogue) -> Result<Restore
         Ok(engine) => Ok(RestoredLog {
             file,
             cut: Vec::new(alloc),
+            reopens: false,
             engine,
         }),
         Err(error) => Err(OpeningFault::from(error)),
@@ -157,6 +159,7 @@ fn find_log(
     ensures rest { IfOk result (λ log. IsRest log.file.bytes.items log.file.rest) }
     ensures answers { IfOk result (λ log. Answers log.engine (history_of (records_of log.file.bytes.items))) }
     ensures cut { IfOk result (λ log. IsCutFrom (option_map (λ file. file.items) found) log.cut.items) }
+    ensures reopens { IfOk result (λ log. IsTrue log.reopens → IsReopenedFrom (option_map (λ file. file.items) found) log.file.bytes.items log.file.rest.end) }
     ensures fault { IfErr result (IsFaultFrom (option_map (λ file. file.items) found) line.now) }
 {
     match found {
@@ -165,7 +168,21 @@ fn find_log(
     }
 }
 
-/// Reads the log of this name, restores it, and makes its file anew.
+/// Makes the file of a log ready: writes a shut gate over the seal of one that goes on, or else makes it
+/// anew.
+fn write_ready<D: Disk>(disk: &mut D, name: &str, log: &RestoredLog) -> Result<(), FileFault>
+    requires opening { IsOpening (D.past disk.old) }
+    ensures ready { OnOk result (D.past disk.new ≡ getting_ready log.now.reopens name.now log.now.file.rest.end log.now.cut.items log.now.file.bytes.items (D.past disk.old)) }
+    ensures any_moment { IsSafe log.now.reopens log.now.file.rest.end log.now.file.bytes.items (D.past disk.new) }
+{
+    if log.reopens {
+        resume(disk, log.file.rest.end, &SHUT)
+    } else {
+        make_anew(disk, name, &log.cut, &log.file.bytes)
+    }
+}
+
+/// Reads the log of this name, restores it, and makes its file ready.
 fn make_ready<D: Disk>(
     alloc: Global,
     disk: &mut D,
@@ -188,7 +205,7 @@ fn make_ready<D: Disk>(
         Ok(log) => log,
         Err(fault) => return Err(Unready::from(fault)),
     };
-    match make_anew(disk, name, &log.cut, &log.file.bytes) {
+    match write_ready(disk, name, &log) {
         Ok(()) => Ok(log),
         Err(fault) => {
             drop(log);
@@ -208,16 +225,16 @@ fn tell_unready<W: Sink>(alloc: Global, fault: Unready, sink: &mut W) -> Result<
     }
 }
 
-fn outcome_of(outcome: Result<(), LoggedFault>) -> Result<(), OverLogFault>
+fn outcome_of(outcome: Result<(), RunFault>) -> Result<(), OverLogFault>
     ensures { result ≡ outcome_over outcome }
 {
     match outcome {
         Ok(()) => Ok(()),
-        Err(fault) => Err(OverLogFault::of_logged(fault)),
+        Err(fault) => Err(OverLogFault::of_run(fault)),
     }
 }
 
-/// Replies to the lines after the first, over a log whose file was made.
+/// Replies to the lines after the first, over a log whose file is ready.
 fn answer_in<D: Disk + Drop, S: Source, W: Sink + Drop>(
     alloc: Global,
     input: &mut InputBuffer,
@@ -226,14 +243,19 @@ fn answer_in<D: Disk + Drop, S: Source, W: Sink + Drop>(
     sink: W,
     log: RestoredLog,
 ) -> (Result<(), OverLogFault>, D, W)
-    requires made { (name : List ℕ) × IsMade (D.past disk) name log.file.bytes.items }
+    requires ready { (name : List ℕ) × IsFileReady (D.past disk) name log.file.bytes.items }
     requires fresh { (W.tape sink).bytes ≡ [] }
     requires rest { IsRest log.file.bytes.items log.file.rest }
     requires answers { Answers log.engine (history_of (records_of log.file.bytes.items)) }
     ensures { AnswersOver log.file.bytes.items (reading (S.tape source.old) (S.tape source.new) input.old input.new)
         (D.past disk) (D.past result.1) (W.tape result.2) result.0 }
 {
-    let RestoredLog { file, cut, engine } = log;
+    let RestoredLog {
+        file,
+        cut,
+        engine,
+        ..
+    } = log;
     drop(cut);
     let host = FileHost::new(disk, sink, &file.bytes);
     let log = Log::new(alloc, host, file.rest);

@@ -1,13 +1,13 @@
 // The faults of a script over a log.
 ghost use Rattle.std.specs.Prelude.{◌≡◌};
 ghost use Rattle.batch_commands.specs.declared.logged_fault.OverLogFault.TheVariants.{OutOfMemory};
-ghost use Rattle.batch_commands.specs.Logging.{over_log_status, fault_of_engine, fault_of_logged};
+ghost use Rattle.batch_commands.specs.Logging.{over_log_status, fault_of_engine, fault_of_run};
 
 use crate::main_program::{
     DEVICE_FAILED, FAULTY_CATALOGUE, LOG_FAILED, LOG_REFUSED, OUT_OF_MEMORY, tell,
 };
-use logged_script::LoggedFault;
 use script_engine::EngineFault;
+use script_log::RunFault;
 use std::alloc::AllocError;
 use std::io::Write;
 
@@ -50,14 +50,14 @@ impl OverLogFault {
     }
 
     /// Converts the fault of a script over a log.
-    pub(crate) fn of_logged(fault: LoggedFault) -> OverLogFault
-        ensures { result ≡ fault_of_logged fault }
+    pub(crate) fn of_run(fault: RunFault) -> OverLogFault
+        ensures { result ≡ fault_of_run fault }
     {
         match fault {
-            LoggedFault::Read => OverLogFault::Read,
-            LoggedFault::Write => OverLogFault::Write,
-            LoggedFault::Log => OverLogFault::Log,
-            LoggedFault::OutOfMemory => OverLogFault::OutOfMemory,
+            RunFault::Read => OverLogFault::Read,
+            RunFault::Write => OverLogFault::Write,
+            RunFault::Log(_) => OverLogFault::Log,
+            RunFault::OutOfMemory => OverLogFault::OutOfMemory,
         }
     }
 

@@ -3,14 +3,14 @@ use Rattle.std.proofs.Common.{◌≡◌, ◌⊎◌, inl, inr, ⊎_elim, ℕ, ◌
 use Rattle.std.specs.Prelude.{◌==◌}
 use Rattle.std.proofs.lemmas.List.{append-nil, take_at, drop_at}
 use Rattle.durable_log.specs.declared.link.Link.{Link}
-use Rattle.durable_log.specs.Format.{LogRecord, record_check, link_after, links_after, covered, digits, column, columns, Next, End, Damaged, Found, after_front, Reading, read, then_read, whole, with_record, prepended, blocks, shut, frame}
+use Rattle.durable_log.specs.Format.{LogRecord, record_check, link_after, links_after, covered, digits, column, columns, Next, End, Damaged, Found, after_front, Reading, read, then_read, whole, with_record, prepended, blocks, frame}
 use Rattle.durable_log.specs.Files.{header, first_link, is_known, version_of, StandsFor}
 use Rattle.durable_log.specs.Logs.{AreSmall}
 use Rattle.durable_log.specs.Damage.{OneOff, IsRefused}
 use Rattle.durable_log.proofs.Numbers.{digits-same}
 use Rattle.durable_log.proofs.Links.{IsLink, next-fits, behind-fits}
 use Rattle.durable_log.proofs.Places.{front-found, not-end, gate-reads}
-use Rattle.durable_log.proofs.Blocks.{read-step, read-blocks, read-last, read-end, next-few}
+use Rattle.durable_log.proofs.Blocks.{read-step, read-blocks, read-end, next-few}
 use Rattle.durable_log.proofs.One.{off-same, off-is, Off, split-off, changed-at, Opened, gate-off}
 
 prefix-same : (xs ys us vs : List ℕ) → length xs ≡ length us → xs ++ ys ≡ us ++ vs → (xs ≡ us) × (ys ≡ vs)
@@ -215,23 +215,23 @@ block-off link r rest x fits small reply_small off = by_next (after_front link s
         let link_is : after ≡ link_after link r = f.after_is ∙ ap (link_after link) both.0 in
         inl (record { behind = more; off = both.1; reads = step ∙ ap (then_read read) is ∙ (λ i. with_record (both.0 i) (read (link_is i) more)) })
 
-blocks-off : (link : Link) (records : List LogRecord) (x : List ℕ) → IsLink link → AreSmall records → OneOff (blocks link records ++ shut) x → (read link x ≡ whole records) ⊎ ((read link x).sound ≡ false)
-blocks-off link [] x fits small off =
-    let s = split-off shut [] x off in
-    let few : length x ≤ 3 = omega (arith, ap length s.split, length-append s.es s.rest, s.size, nil-length s.rest s.rest_off) in
+blocks-off : (gate : List ℕ) → length gate ≡ 3 → (link : Link) (records : List LogRecord) (x : List ℕ) → IsLink link → AreSmall records → OneOff (blocks link records ++ gate) x → (read link x ≡ whole records) ⊎ ((read link x).sound ≡ false)
+blocks-off gate three link [] x fits small off =
+    let s = split-off gate [] x (subst (λ (l : List ℕ). OneOff l x) (sym (append-nil gate)) off) in
+    let few : length x ≤ 3 = omega (arith, ap length s.split, length-append s.es s.rest, s.size, three, nil-length s.rest s.rest_off) in
     inl (read-end link x (next-few link x few))
   where
     nil-length : (l : List ℕ) → OneOff [] l → length l ≡ 0
     nil-length [] off = refl
     nil-length (y ∷ l) off = absurd off
-blocks-off link (r ∷ records) x fits small off = ⊎_elim
-    (λ (b : BlockRead link r (blocks (link_after link r) records ++ shut) x). ⊎_elim
+blocks-off gate three link (r ∷ records) x fits small off = ⊎_elim
+    (λ (b : BlockRead link r (blocks (link_after link r) records ++ gate) x). ⊎_elim
     (λ (is : read (link_after link r) b.behind ≡ whole records). inl (b.reads ∙ ap (with_record r) is))
     (λ (unsound : (read (link_after link r) b.behind).sound ≡ false). inr (ap (λ (q : Reading). q.sound) b.reads ∙ unsound))
-    (blocks-off (link_after link r) records b.behind (next-fits link r fits) small.2 b.off))
+    (blocks-off gate three (link_after link r) records b.behind (next-fits link r fits) small.2 b.off))
     (λ (unsound : (read link x).sound ≡ false). inr unsound)
-    (block-off link r (blocks (link_after link r) records ++ shut) x fits small.0 small.1
-    (subst (λ (l : List ℕ). OneOff (49 ∷ 49 ∷ 49 ∷ l) x) (append_assoc (frame link r) (blocks (link_after link r) records) shut) off))
+    (block-off link r (blocks (link_after link r) records ++ gate) x fits small.0 small.1
+    (subst (λ (l : List ℕ). OneOff (49 ∷ 49 ∷ 49 ∷ l) x) (append_assoc (frame link r) (blocks (link_after link r) records) gate) off))
 
 -- the file whose header may be changed
 head-off : (es body : List ℕ) (records : List LogRecord) → length es ≡ 8 → read first_link body ≡ whole records → StandsFor records (es ++ body) ⊎ IsRefused (es ++ body)
@@ -248,18 +248,18 @@ head-off (a ∷ b ∷ c ∷ d ∷ e ∷ f ∷ g ∷ h ∷ []) body records size 
 head-off (a ∷ b ∷ c ∷ d ∷ e ∷ f ∷ g ∷ h ∷ i ∷ es) body records size is = absurd (omega arith)
 head-off es body records size is = absurd (omega arith)
 
-pub file-off : (records : List LogRecord) (file : List ℕ) → AreSmall records → OneOff (header ++ (blocks first_link records ++ shut)) file → StandsFor records file ⊎ IsRefused file
-file-off records file small off =
-    let body = blocks first_link records ++ shut in
+pub file-off : (gate : List ℕ) → length gate ≡ 3 → (records : List LogRecord) (file : List ℕ) → AreSmall records → OneOff (header ++ (blocks first_link records ++ gate)) file → StandsFor records file ⊎ IsRefused file
+file-off gate three records file small off =
+    let body = blocks first_link records ++ gate in
     let s = split-off header body file off in
     let body_is : read first_link body ≡ whole records =
-    read-blocks first_link records shut small (behind-fits []) ∙ ap (prepended records) (read-last (links_after first_link records)) ∙ (λ i. whole (append-nil records i)) in
+    read-blocks first_link records gate small (behind-fits []) ∙ ap (prepended records) (read-end (links_after first_link records) gate (next-few (links_after first_link records) gate (omega (arith, three)))) ∙ (λ i. whole (append-nil records i)) in
     subst (λ (l : List ℕ). StandsFor records l ⊎ IsRefused l) (sym s.split)
     (⊎_elim
     (λ (same : s.es ≡ header). subst (λ (l : List ℕ). StandsFor records (l ++ s.rest) ⊎ IsRefused (l ++ s.rest)) (sym same)
     (⊎_elim
     (λ (is : read first_link s.rest ≡ whole records). inl (s.rest, refl, is))
     (λ (unsound : (read first_link s.rest).sound ≡ false). inr (inr (inr (s.rest, refl, unsound))))
-    (blocks-off first_link records s.rest (behind-fits []) small s.rest_off)))
+    (blocks-off gate three first_link records s.rest (behind-fits []) small s.rest_off)))
     (λ (same : s.rest ≡ body). subst (λ (l : List ℕ). StandsFor records (s.es ++ l) ⊎ IsRefused (s.es ++ l)) (sym same) (head-off s.es body records s.size body_is))
     s.one)

@@ -2,9 +2,9 @@
 use Rattle.std.proofs.Common.{◌≡◌, ℕ, ◌+◌, ◌-◌, ◌<◌, ◌≤◌, List, [], ◌∷◌, ◌++◌, length, drop, Bool, true, false, refl, sym, ◌∙◌, ap, subst, arith, append_assoc, length-append}
 use Rattle.std.specs.Prelude.{◌==◌, nat_lt, if◌then◌else◌}
 use Rattle.std.proofs.lemmas.List.{append-nil, drop_at}
-use Rattle.durable_log.specs.Format.{LogRecord, link_after, Next, End, Damaged, Found, Behind, max_batch, after_shut, after_gate, next, Reading, whole, then_read, read, prepended, frame, shut, is_open}
+use Rattle.durable_log.specs.Format.{LogRecord, link_after, Next, End, Damaged, Found, Behind, max_batch, after_shut, after_gate, next, Reading, whole, then_read, read, prepended, frame, is_open}
 use Rattle.durable_log.specs.Files.{opening, Ours, is_known, version_of, first_link, link_behind, StandsFor, Holding}
-use Rattle.durable_log.specs.Logs.{records_by, records_of, link_of, EndsAt, IsAtRest, IsDamagedAt}
+use Rattle.durable_log.specs.Logs.{records_by, records_of, link_of, EndsAt, EndsWith, IsDamagedAt}
 use Rattle.durable_log.specs.Parts.{IsRead, IsPart, IsPartDamaged}
 use Rattle.durable_log.specs.Shown.{HasFault, HasPartFault}
 use Rattle.durable_log.specs.declared.reading.ReadFault.{ReadFault}
@@ -141,18 +141,18 @@ module _ (file part : List ℕ) (ours : opening file ≡ Ours part) (records : L
   pub part-link : link_of file ≡ link_behind records
   part-link = ap link_behind (records-stand records file part-stands)
 
-  -- it is clean if all that is left is a shut gate
-  pub part-clean : (end : ℕ) → end ≡ length file - length rest → rest ≡ shut → IsAtRest file end
+  -- it ends with a gate if that is all that is left
+  pub part-with : (gate : List ℕ) (end : ℕ) → end ≡ length file - length rest → rest ≡ gate → EndsWith gate file end
   unfolding part-ends
-  part-clean end is last =
+  part-with gate end is last =
       let e = part-ends end is in
       record { base = e.base; split = e.split ∙ ap (λ (l : List ℕ). e.base ++ l) last; place = e.place; holds = e.holds }
 
-  pub part-shut : (end : ℕ) → end ≡ length file - length rest → IsAtRest file end → rest ≡ shut
+  pub part-gate : (gate : List ℕ) (end : ℕ) → end ≡ length file - length rest → EndsWith gate file end → rest ≡ gate
   unfolding part-ends
-  part-shut end is at_rest =
+  part-gate gate end is ended =
       let e = part-ends end is in
-      sym (drop_at e.base rest end (sym e.place)) ∙ ap (drop end) (sym e.split ∙ at_rest.split) ∙ drop_at at_rest.base shut end (sym at_rest.place)
+      sym (drop_at e.base rest end (sym e.place)) ∙ ap (drop end) (sym e.split ∙ ended.split) ∙ drop_at ended.base gate end (sym ended.place)
 
 -- what is damaged behind a header is so in the file
 pub part-damaged : (file part : List ℕ) (number byte : ℕ) → opening file ≡ Ours part → IsPartDamaged part number byte → IsDamagedAt file number byte

@@ -13,3 +13,4 @@ pub mod One
 pub mod Damages
 pub mod Misplaced
 pub mod NewLogs
+pub mod Sealing

@@ -69,7 +69,7 @@ nil-off : (es : List ℕ) → OneOff [] es → es ≡ []
 nil-off [] off = refl
 nil-off (x ∷ es) off = absurd off
 
-open-first : (a : ℕ) → is_open a 49 49 ≡ true
+pub open-first : (a : ℕ) → is_open a 49 49 ≡ true
 open-first a = elim (a == 49) as (λ v. (if v then 49 == 49 || 49 == 49 else 49 == 49 && 49 == 49) ≡ true) [ true ↦ refl | false ↦ refl ]
 
 open-second : (b : ℕ) → is_open 49 b 49 ≡ true

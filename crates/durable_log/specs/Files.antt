@@ -1,7 +1,7 @@
 -- The records of a file.
 use Rattle.std.specs.Prelude.{ℕ, ◌≡◌, ◌==◌, ◌&&◌, List, [], ◌∷◌, ◌++◌, Bool, true, false}
 use Rattle.durable_log.specs.declared.link.Link.{Link}
-use Rattle.durable_log.specs.Format.{LogRecord, check_of, links_after, blocks, shut, read, prepended, whole}
+use Rattle.durable_log.specs.Format.{LogRecord, check_of, links_after, blocks, shut, seal, read, prepended, whole}
 
 -- the beginning of a file: that of a log of this version, of a log of another version, or of no log
 pub data Opening : Type 0 where
@@ -39,6 +39,10 @@ opening short = Foreign
 -- A LOG WITH THESE RECORDS: the header, each record after an open gate, and a shut gate
 abbrev pub log_of : List LogRecord → List ℕ
 log_of records = header ++ (blocks first_link records ++ shut)
+
+-- the same log, sealed
+abbrev pub sealed_log_of : List LogRecord → List ℕ
+sealed_log_of records = header ++ (blocks first_link records ++ seal)
 
 -- THE FILE HAS THESE RECORDS: it is a log of this version, and nothing after an open gate is damaged
 abbrev pub StandsFor : List LogRecord → List ℕ → Type 0

@@ -70,6 +70,10 @@ blocks link (r ∷ records) = 49 ∷ 49 ∷ 49 ∷ (frame link r ++ blocks (link
 abbrev pub shut : List ℕ
 shut = 48 ∷ 48 ∷ 48 ∷ []
 
+-- the seal: the gate at the end of a log whose last run ended well. It is shut, too
+abbrev pub seal : List ℕ
+seal = 115 ∷ 115 ∷ 115 ∷ []
+
 -- Reading
 
 -- the value of a byte as a digit; a byte that is no digit has some value, too

@@ -1,7 +1,7 @@
 -- A log at rest, and the state of an open log.
 use Rattle.std.specs.Prelude.{ℕ, ◌<◌, ◌≤◌, ◌^◌, ◌≡◌, ◌⊎◌, List, [], ◌∷◌, ◌++◌, length, take}
-use Rattle.log_host.specs.Host.{Outcomes, Only}
-use Rattle.durable_log.specs.Format.{LogRecord, link_after, links_after, frame, read, shut, blocks, next, End, Damaged, max_batch}
+use Rattle.log_host.specs.Host.{Outcomes, Only, Torn}
+use Rattle.durable_log.specs.Format.{LogRecord, link_after, links_after, frame, read, shut, seal, blocks, next, End, Damaged, max_batch}
 use Rattle.durable_log.specs.Files.{Opening, Ours, Later, Foreign, opening, first_link, link_behind, Holding, StandsFor}
 use Rattle.durable_log.specs.declared.link.Link.{Link}
 use Rattle.durable_log.specs.declared.log.Log.{Log}
@@ -26,12 +26,39 @@ abbrev pub AreSmall : List LogRecord → Type 0
 AreSmall [] = Unit {0}
 AreSmall (r ∷ records) = (length r.line < 2 ^ 32) × (r.reply_check < 2 ^ 32) × AreSmall records
 
--- the file ends with a shut gate at this place, and all bytes before it are its records
-pub record IsAtRest (file : List ℕ) (end : ℕ) : Type 0 where
+-- the file ends with this gate at this place, and all bytes before it are its records
+pub record EndsWith (gate file : List ℕ) (end : ℕ) : Type 0 where
   pub base : List ℕ
-  pub split : file ≡ base ++ shut
+  pub split : file ≡ base ++ gate
   pub place : end ≡ length base
   pub holds : Holding (records_of file) base
+
+-- the file is at rest: it ends with a shut gate
+abbrev pub IsAtRest : List ℕ → ℕ → Type 0
+IsAtRest file end = EndsWith shut file end
+
+-- THE FILE IS SEALED: it ends with the seal. A run seals its log after all bytes of it are on the disk
+abbrev pub IsSealed : List ℕ → ℕ → Type 0
+IsSealed file end = EndsWith seal file end
+
+-- the file is not sealed at any place
+abbrev pub IsUnsealed : List ℕ → Type 0
+IsUnsealed file = (end : ℕ) → IsSealed file end → ⊥
+
+-- a crash leaves a file that is not sealed
+abbrev pub Unsealed : Outcomes
+Unsealed file o = IsUnsealed file
+
+-- a file was sealed, and these are its bytes with a shut gate in place of the seal
+pub record Reopens (file now : List ℕ) (end : ℕ) : Type 0 where
+  pub base : List ℕ
+  pub before : file ≡ base ++ seal
+  pub after : now ≡ base ++ shut
+  pub place : end ≡ length base
+
+-- a crash leaves these bytes, but for any in place of the gate at their end; and the listener has heard these
+abbrev pub ButForGate : List ℕ → ℕ → List ℕ → Outcomes
+ButForGate file end heard c o = Torn end 3 file c × (o ≡ heard)
 
 -- the file is at rest, and the log goes on there
 pub record IsRest (file : List ℕ) (rest : Rest) : Type 0 where

@@ -2,7 +2,7 @@
 use Rattle.std.specs.Prelude.{ℕ, ◌≡◌, ◌↔◌, IsTrue, List}
 use Rattle.durable_log.specs.Format.{LogRecord, Column, Absent, Number, Next, End, Damaged, Found}
 use Rattle.durable_log.specs.Files.{Later, Foreign, opening}
-use Rattle.durable_log.specs.Logs.{link_of, EndsAt, IsAtRest, IsDamagedAt}
+use Rattle.durable_log.specs.Logs.{link_of, EndsAt, IsAtRest, IsSealed, IsDamagedAt}
 use Rattle.durable_log.specs.Parts.{IsPartDamaged}
 use Rattle.durable_log.specs.declared.record.Record.{Record}
 use Rattle.durable_log.specs.declared.columns.ColumnRead.{ColumnRead}
@@ -26,11 +26,12 @@ next_shown places.End = End
 next_shown places.Damaged = Damaged
 next_shown (places.Found r link rest) = Found (record_shown r) link rest.now
 
--- the records of a file end there, and it is clean if it ends right after a shut gate
+-- the records of a file end there. It is clean if it ends right after a shut gate, and sealed if right after a seal
 pub record IsEnd (file : List ℕ) (end : LogEnd) : Type 0 where
   pub ends : EndsAt file end.byte
   pub link : end.link ≡ link_of file
   pub clean : IsTrue end.is_clean ↔ IsAtRest file end.byte
+  pub sealed : IsTrue end.is_sealed ↔ IsSealed file end.byte
 
 -- a fault of a file
 abbrev pub HasFault : List ℕ → ReadFault → Type 0

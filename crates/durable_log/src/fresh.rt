@@ -1,7 +1,7 @@
 // The bytes of a new log, of a log that was read, and of a log with one record more.
-ghost use Rattle.std.specs.Prelude.{◌≡◌, ◌≤◌, ◌^◌, ◌∷◌, ◌++◌, [], length, drop, IfOk, if◌then◌else◌};
+ghost use Rattle.std.specs.Prelude.{◌≡◌, ◌≤◌, ◌^◌, ◌∷◌, ◌++◌, ◌||◌, [], length, drop, IfOk, IsTrue, if◌then◌else◌};
 ghost use Rattle.durable_log.specs.Files.{log_of, StandsFor};
-ghost use Rattle.durable_log.specs.Logs.{records_of, IsRest};
+ghost use Rattle.durable_log.specs.Logs.{records_of, IsRest, Reopens};
 ghost use Rattle.durable_log.specs.Shown.{record_shown, IsEnd};
 
 use crate::frame::{frame, push_record};
@@ -19,7 +19,7 @@ const BEGINNING: [u8; 11] = *b"bctlog2\n111";
 pub struct CleanLog {
     /// The log, with all its records.
     pub file: LogFile,
-    /// The bytes after its records, if the end wasn't clean.
+    /// The bytes after its records, if the end was neither clean nor sealed.
     pub cut: Vec<u8>,
 }
 
@@ -55,7 +55,8 @@ pub fn restored(alloc: Global, mut bytes: Vec<u8>, end: End) -> Result<CleanLog,
     requires { IsEnd bytes.items end }
     ensures records { IfOk result (λ r. records_of r.file.bytes.items ≡ records_of bytes.items) }
     ensures rest { IfOk result (λ r. IsRest r.file.bytes.items r.file.rest) }
-    ensures cut { IfOk result (λ r. r.cut.items ≡ (if end.is_clean then [] else drop end.byte bytes.items)) }
+    ensures cut { IfOk result (λ r. r.cut.items ≡ (if end.is_clean || end.is_sealed then [] else drop end.byte bytes.items)) }
+    ensures reopens { IfOk result (λ r. IsTrue end.is_sealed → Reopens bytes.items r.file.bytes.items r.file.rest.end) }
 {
     let rest = Rest {
         end: end.byte,
@@ -66,7 +67,11 @@ pub fn restored(alloc: Global, mut bytes: Vec<u8>, end: End) -> Result<CleanLog,
         let cut = Vec::new(alloc);
         return Ok(CleanLog { file, cut });
     }
-    let cut = bytes[end.byte..].to_vec(alloc)?;
+    let cut = if end.is_sealed {
+        Vec::new(alloc)
+    } else {
+        bytes[end.byte..].to_vec(alloc)?
+    };
     bytes.truncate(end.byte);
     bytes.extend_from_slice(b"000")?;
     let file = LogFile { bytes, rest };

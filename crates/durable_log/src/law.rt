@@ -1,14 +1,14 @@
 ghost use Rattle.std.specs.Prelude.{◌⊎◌, ◌≢◌, ◌<◌, ◌+◌, ◌%◌, ◌^◌, ◌∷◌, ◌++◌, [], List, ℕ, length};
 ghost use Rattle.durable_log.specs.Format.{LogRecord, shut};
-ghost use Rattle.durable_log.specs.Files.{header, log_of, StandsFor};
+ghost use Rattle.durable_log.specs.Files.{header, log_of, sealed_log_of, StandsFor};
 ghost use Rattle.durable_log.specs.Logs.{AreSmall};
 ghost use Rattle.durable_log.specs.Damage.{OneOff, written, IsRefused};
 
 /// A law: if one byte of a file was changed, the file is refused, or it has the same records. It
-/// holds for each byte: of the header, a gate, a space, a mark, a length, a number, a check, a line
-/// or a line feed.
+/// holds for each byte: of the header, a gate, a space, a mark, a length, a number, a check, a line,
+/// a line feed or a seal.
 pub fn one_changed_byte_is_found()
-    ensures { (records : List LogRecord) (file : List ℕ) → AreSmall records → OneOff (log_of records) file
+    ensures { (records : List LogRecord) (file : List ℕ) → AreSmall records → OneOff (log_of records) file ⊎ OneOff (sealed_log_of records) file
         → StandsFor records file ⊎ IsRefused file }
 {}
 

@@ -19,7 +19,7 @@ pub use law::{
     exchanged_records_are_found, one_changed_byte_is_found,
 };
 pub use link::Link;
-pub use log::{CommitFault, Log};
+pub use log::{CommitFault, Log, SHUT};
 pub use log_host::{Host, HostFault};
 pub use place::MAX_BATCH;
 pub use reading::{Contents, End, ReadFault, read_log};

@@ -1,7 +1,7 @@
 // An open log.
 ghost use Rattle.std.specs.Prelude.{◌≡◌, ◌<◌, ◌≤◌, ◌^◌, ◌+◌, ◌-◌, ◌++◌, ◌∷◌, ◌↔◌, [], length, take, OnOk, OnErr, IfOk, IsErrOf, IsTrue};
-ghost use Rattle.log_host.specs.Host.{Only, LeavesOnly};
-ghost use Rattle.durable_log.specs.Logs.{records_of, link_of, IsAtRest, IsRest, IsBatch, IsSettled, waiting_in, batch_records, BeforeOrAfter, Told};
+ghost use Rattle.log_host.specs.Host.{Each, Only, LeavesOnly};
+ghost use Rattle.durable_log.specs.Logs.{records_of, link_of, IsAtRest, IsRest, IsSealed, IsBatch, IsSettled, waiting_in, batch_records, BeforeOrAfter, ButForGate, Same, Told, Unsealed};
 ghost use Rattle.durable_log.specs.Shown.{record_shown};
 ghost use Rattle.durable_log.specs.declared.log.CommitFault.TheVariants.{Failed};
 
@@ -14,8 +14,14 @@ use std::alloc::{AllocError, Global};
 use std::error::Error;
 use std::fmt;
 
+/// A shut gate, with which a file at rest ends.
+pub const SHUT: [u8; 3] = *b"000";
+
 // An open gate.
 const OPEN: [u8; 3] = *b"111";
+
+// The gate of a sealed log.
+const SEAL: [u8; 3] = *b"sss";
 
 // The most bytes that a file may have.
 const MAX_FILE: usize = 1 << 62;
@@ -77,6 +83,7 @@ fn put_batch<H: Host>(host: &mut H, end: usize, batch: &[u8]) -> Result<(), Host
         (batch_records (link_of (H.seen host.old)) batch.now) (H.heard host.old)) }
     ensures later { H.file_faults host.old ≤ H.file_faults host.new }
     ensures failed { OnErr result (H.file_faults host.old < H.file_faults host.new) }
+    ensures unsealed { LeavesOnly H.moment H.left_since host.old host.new Unsealed }
     ensures listener { H.listener_faults host.new ≡ H.listener_faults host.old }
     ensures origin { H.origin host.new ≡ H.origin host.old }
 {
@@ -155,6 +162,9 @@ impl<H: Host> Log<H> {
         ensures any_moment { LeavesOnly H.moment H.left_since self.old.host self.new.host
             (BeforeOrAfter (records_of (H.seen self.old.host)) (waiting_in self.old) (H.heard self.old.host)) }
 
+        // Nor is the file sealed at any moment.
+        ensures unsealed { LeavesOnly H.moment H.left_since self.old.host self.new.host Unsealed }
+
         ensures later { H.file_faults self.old.host ≤ H.file_faults self.new.host }
         ensures failed { IsErrOf result CommitFault.Failed → H.file_faults self.old.host < H.file_faults self.new.host }
         ensures listener { H.listener_faults self.new.host ≡ H.listener_faults self.old.host }
@@ -195,12 +205,31 @@ impl<H: Host> Log<H> {
         ensures any_moment { LeavesOnly H.moment H.left_since self.old.host self.new.host
             (Told (records_of (H.seen self.old.host)) (H.heard self.old.host) piece.now) }
 
+        ensures unsealed { LeavesOnly H.moment H.left_since self.old.host self.new.host Unsealed }
         ensures later { H.listener_faults self.old.host ≤ H.listener_faults self.new.host }
         ensures failed { OnErr result (H.listener_faults self.old.host < H.listener_faults self.new.host) }
         ensures file { H.file_faults self.new.host ≡ H.file_faults self.old.host }
         ensures origin { H.origin self.new.host ≡ H.origin self.old.host }
     {
         self.host.tell(piece)
+    }
+
+    /// Seals the log, and returns the host. A sealed log needs not be made anew when it is opened:
+    /// all of its bytes were on the disk before it was sealed. The seal itself isn't synced, and it
+    /// is no loss if it fails: the log is opened as one that a crash left.
+    pub fn seal(mut self) -> H
+        requires settled { IsSettled H.seen H.heard H.may_leave self }
+        requires nothing_waits { waiting_in self ≡ [] }
+        ensures any_moment { LeavesOnly H.moment H.left_since self.host result (Same (records_of (H.seen self.host)) (H.heard self.host)) }
+        ensures sealed { H.file_faults result ≡ H.file_faults self.host → IsSealed (H.seen result) self.end }
+        ensures but_for_gate { Each (H.may_leave result) (ButForGate (H.seen self.host) self.end (H.heard self.host)) }
+        ensures heard { H.heard result ≡ H.heard self.host }
+        ensures file { H.file_faults self.host ≤ H.file_faults result }
+        ensures listener { H.listener_faults result ≡ H.listener_faults self.host }
+        ensures origin { H.origin result ≡ H.origin self.host }
+    {
+        let _ = self.host.write_at(self.end, &SEAL);
+        self.host
     }
 
     /// Returns the host, as the calls left it.

@@ -1,6 +1,5 @@
 // Reading the bytes of a file.
-ghost use Rattle.std.specs.Prelude.{◌≡◌, ◌↔◌, ◌∷◌, List, length, map, drop, IsTrue, IfOk, IfErr};
-ghost use Rattle.durable_log.specs.Format.{shut};
+ghost use Rattle.std.specs.Prelude.{◌≡◌, ◌↔◌, ◌∷◌, List, [], length, map, drop, IsTrue, IfOk, IfErr};
 ghost use Rattle.durable_log.specs.Files.{opening, Ours, is_known, first_link, link_behind, StandsFor};
 ghost use Rattle.durable_log.specs.Parts.{IsPart};
 ghost use Rattle.durable_log.specs.declared.reading.ReadFault.TheVariants.{OutOfMemory};
@@ -72,6 +71,9 @@ pub struct End {
     pub link: Link,
     /// Whether the gate is shut, and the file ends right after it.
     pub is_clean: bool,
+    /// Whether the gate is the seal, and the file ends right after it. Then the run that wrote the
+    /// file ended well, and all bytes before the seal are on the disk.
+    pub is_sealed: bool,
 }
 
 /// The records of a file, and their end.
@@ -160,11 +162,12 @@ fn behind_header(file: &[u8]) -> Result<&[u8], ReadFault>
     }
 }
 
-fn is_shut(bytes: &[u8]) -> bool
-    ensures { IsTrue result ↔ (bytes.now ≡ shut) }
+// Checks whether the bytes are a gate of this byte, three times.
+fn is_gate(bytes: &[u8], byte: u8) -> bool
+    ensures { IsTrue result ↔ (bytes.now ≡ byte ∷ byte ∷ byte ∷ []) }
 {
     match bytes {
-        [a, b, c] => *a == b'0' && *b == b'0' && *c == b'0',
+        [a, b, c] => *a == byte && *b == byte && *c == byte,
         _ => false,
     }
 }
@@ -193,7 +196,8 @@ pub fn read_log(alloc: Global, file: &[u8]) -> Result<Contents<'_>, ReadFault>
     let end = End {
         byte: file.len() - found.rest.len(),
         link: found.link,
-        is_clean: is_shut(found.rest),
+        is_clean: is_gate(found.rest, b'0'),
+        is_sealed: is_gate(found.rest, b's'),
     };
     Ok(Contents {
         records: found.records,

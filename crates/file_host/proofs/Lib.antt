@@ -1,1 +1,2 @@
 mod Makings
+pub mod Resuming

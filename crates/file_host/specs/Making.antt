@@ -1,5 +1,6 @@
 -- Making a file anew, and what a crash leaves under its name.
-use Rattle.std.specs.Prelude.{ℕ, ◌≡◌, ◌==◌, ◌&&◌, ◌||◌, List, [], ◌∷◌, ◌++◌, Bool, true, false, Option, None, Some}
+use Rattle.std.specs.Prelude.{ℕ, ◌≡◌, ◌⊎◌, ◌==◌, ◌&&◌, ◌||◌, List, [], ◌∷◌, ◌++◌, Bool, true, false, Option, None, Some}
+use Rattle.log_host.specs.Host.{Holds}
 use Rattle.log_host.specs.Past.{Call, leaves_after}
 use Rattle.file_host.specs.Calls.{file_calls}
 
@@ -62,6 +63,30 @@ abbrev pub reading : List ℕ → Option (List ℕ) → List Call → List Call
 reading name None before = (5, (0, (name, 0))) ∷ before
 reading name (Some bytes) before = (6, (0, (bytes, 1))) ∷ (5, (0, (name, 1))) ∷ before
 
+-- at each moment of these calls, and before the first, a crash leaves of a file that was read with these bytes one that has P
+abbrev pub AtEachMomentOf : List ℕ → List Call → (List ℕ → Type 0) → Type 0
+AtEachMomentOf file [] P = P file
+AtEachMomentOf file (call ∷ calls) P = ((c : List ℕ) → leaves_after file (file_calls (call ∷ calls)) c [] → P c) × AtEachMomentOf file calls P
+
+-- the calls by which bytes are written over those at a place of a file that was read, the newest first
+abbrev pub resuming : ℕ → List ℕ → List Call
+resuming at bytes = (1, (0, ([], 1))) ∷ (0, (at, (bytes, 1))) ∷ []
+
+-- a file goes on as it was read, but for bytes that were written over its own; these are its bytes
+pub record IsResumed (calls : List Call) (bytes : List ℕ) : Type 0 where
+  pub name : List ℕ
+  pub file : List ℕ
+  pub before : List Call
+  pub opening : IsOpening before
+  pub at : ℕ
+  pub over : List ℕ
+  pub calls_are : calls ≡ resuming at over ++ reading name (Some file) before
+  pub bytes_are : Holds file at over bytes
+
 -- the file of this name was made with these bytes, after an opening
 abbrev pub IsMade : List Call → List ℕ → List ℕ → Type 0
 IsMade calls name bytes = (before : List Call) × IsOpening before × (calls ≡ making name bytes ++ before)
+
+-- the file is ready with these bytes, all of them on the disk: it was made, or goes on as it was read
+abbrev pub IsReady : List Call → List ℕ → List ℕ → Type 0
+IsReady calls name bytes = IsMade calls name bytes ⊎ IsResumed calls bytes

@@ -1,5 +1,5 @@
 -- The steps of a disk, and the calls that they make up.
-use Rattle.std.specs.Prelude.{ℕ, zero, suc, ◌≡◌, ◌==◌, ◌&&◌, ◌||◌, List, [], ◌∷◌, Bool, true, false, if◌then◌else◌}
+use Rattle.std.specs.Prelude.{ℕ, zero, suc, ◌≡◌, ◌==◌, ◌&&◌, ◌||◌, not, List, [], ◌∷◌, Bool, true, false, if◌then◌else◌}
 use Rattle.std.specs.Str.{bytes_eq}
 use Rattle.log_host.specs.Past.{Call}
 use Rattle.log_host.specs.Noted.{flag}
@@ -83,19 +83,35 @@ may_empty part.Draft steps = is_held steps
 may_empty part.Cut steps = is_beside steps
 may_empty part.Folder steps = false
 
--- whether a part may be written after these steps
-abbrev pub may_write : Part → List Step → Bool
-may_write part.Log steps = false
-may_write part.Draft steps = true
-may_write part.Cut steps = is_cleared steps
-may_write part.Folder steps = false
+-- whether the log was taken, and whether a draft was made
+abbrev pub was_taken : List Call → Bool
+was_taken [] = false
+was_taken (call ∷ calls) = (call.1.1.1 == 1 && call.0 == 5) || was_taken calls
+
+abbrev pub was_drafted : List Call → Bool
+was_drafted [] = false
+was_drafted (call ∷ calls) = (call.1.1.1 == 1 && call.0 == 7) || was_drafted calls
+
+-- whether a part is the file that calls write and sync: the draft once it is made, and before that the log that was taken
+abbrev pub is_written : Part → List Call → Bool
+is_written part.Log calls = was_taken calls && not (was_drafted calls)
+is_written part.Draft calls = was_drafted calls
+is_written part.Cut calls = false
+is_written part.Folder calls = false
+
+-- whether a part may be written after these steps and calls
+abbrev pub may_write : Part → List Step → List Call → Bool
+may_write part.Log steps calls = is_written part.Log calls
+may_write part.Draft steps calls = is_written part.Draft calls
+may_write part.Cut steps calls = is_cleared steps
+may_write part.Folder steps calls = false
 
 -- whether a step changes no file but where a call of the disk does
-abbrev pub is_allowed : Step → List Step → Bool
-is_allowed (Did deed.Make p ok) steps = may_make p
-is_allowed (Did deed.Empty p ok) steps = may_empty p steps
-is_allowed (Wrote p at bytes ok) steps = may_write p steps
-is_allowed step steps = true
+abbrev pub is_allowed : Step → List Step → List Call → Bool
+is_allowed (Did deed.Make p ok) steps calls = may_make p
+is_allowed (Did deed.Empty p ok) steps calls = may_empty p steps
+is_allowed (Wrote p at bytes ok) steps calls = may_write p steps calls
+is_allowed step steps calls = true
 
 -- what stands for a change that no call of the disk makes: no contract of a call has it
 abbrev pub stray : Call
@@ -103,8 +119,8 @@ stray = (11, (0, ([], 0)))
 
 -- a step after others, with the calls before it
 abbrev pub calls_with : Step → List Step → List Call → List Call
-calls_with (Did deed.Sync part.Draft ok) steps calls = (1, (0, ([], flag ok))) ∷ calls
-calls_with (Wrote part.Draft at bytes ok) steps calls = (0, (at, (bytes, flag ok))) ∷ calls
+calls_with (Did deed.Sync p ok) steps calls = if is_written p calls then (1, (0, ([], flag ok))) ∷ calls else calls
+calls_with (Wrote p at bytes ok) steps calls = if is_written p calls then (0, (at, (bytes, flag ok))) ∷ calls else calls
 calls_with (Made call) steps calls = call ∷ calls
 calls_with (Ended call) steps calls = ended call steps ∷ calls
 calls_with step steps calls = calls
@@ -112,7 +128,7 @@ calls_with step steps calls = calls
 -- THE CALLS OF A DISK that took these steps, the newest first
 abbrev pub calls_of : List Step → List Call
 calls_of [] = []
-calls_of (step ∷ steps) = calls_with step steps (if is_allowed step steps then calls_of steps else stray ∷ calls_of steps)
+calls_of (step ∷ steps) = calls_with step steps (if is_allowed step steps (calls_of steps) then calls_of steps else stray ∷ calls_of steps)
 
 -- a part was locked, and then it was a regular file for which its name stood
 abbrev pub IsLocked : Part → List Step → List Step → Type 0

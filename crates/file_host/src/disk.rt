@@ -67,7 +67,8 @@ pub trait Disk {
     fn draft(&mut self, name: &str) -> Result<(), FileFault>
         ensures { past self.new ≡ draft_call name.now result ∷ past self.old };
 
-    /// Writes all of the bytes at a place of the draft.
+    /// Writes all of the bytes at a place of the draft; or of the file that was taken, as long as no
+    /// draft was made.
     ///
     /// # Errors
     ///
@@ -76,7 +77,8 @@ pub trait Disk {
     fn write_at(&mut self, at: usize, bytes: &[u8]) -> Result<(), CallFault>
         ensures { past self.new ≡ write_call at bytes.now result ∷ past self.old };
 
-    /// Waits until all bytes of the draft are on the disk.
+    /// Waits until all bytes of the draft are on the disk; or of the file that was taken, as long as
+    /// no draft was made.
     ///
     /// # Errors
     ///

@@ -9,7 +9,7 @@ use crate::disk::Disk;
 use log_host::{Asked, Host, HostFault, Tape};
 use script_lines::Sink;
 
-/// A file that was made anew, and a sink that hears the replies. After a call of the file has
+/// A file that was made anew or goes on, and a sink that hears the replies. After a call of the file has
 /// failed, no further call of it is made, since a sync after a failed one proves nothing. The same
 /// holds for the sink.
 #[derive(Drop)]
@@ -33,12 +33,13 @@ impl<D: Disk + Drop, S: Sink + Drop> FileHost<D, S> {
     ghost use Rattle.log_host.specs.Past.{seen_after, heard_after, leaves_after, file_faults_after, listener_faults_after};
     ghost use Rattle.log_host.specs.Host.{Only};
     ghost use Rattle.file_host.specs.Calls.{file_calls};
-    ghost use Rattle.file_host.specs.Making.{IsMade};
+    ghost use Rattle.file_host.specs.Making.{IsReady};
 
-    /// Creates a host over a file that was made with these bytes, and a sink that has taken nothing
-    /// yet. All bytes of the file are on the disk.
+    /// Creates a host over a file that was made with these bytes, or goes on with them, and a sink
+    /// that has taken nothing yet. All bytes of the file are on the disk: of a file that goes on, that
+    /// is what the caller knows of the bytes that were read.
     pub fn new(disk: D, listener: S, bytes: &[u8]) -> FileHost<D, S>
-        requires made { (name : List ℕ) × IsMade (D.past disk) name bytes.now }
+        requires ready { (name : List ℕ) × IsReady (D.past disk) name bytes.now }
         requires fresh { (S.tape listener).bytes ≡ [] }
         ensures seen { seen_after result.tape.past.start result.tape.past.calls ≡ bytes.now }
         ensures heard { heard_after result.tape.past.calls ≡ [] }

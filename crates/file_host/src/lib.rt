@@ -18,6 +18,6 @@ mod system_files;
 pub use disk::{CallFault, Disk};
 pub use file_fault::FileFault;
 pub use host::FileHost;
-pub use making::{make_anew, read_file};
+pub use making::{make_anew, read_file, resume};
 pub use no_disk::NoDisk;
 pub use system::SystemDisk;

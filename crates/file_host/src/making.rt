@@ -1,7 +1,10 @@
 // Reading a file, and making it anew.
-ghost use Rattle.std.specs.Prelude.{◌≡◌, ◌++◌, IfOk, OnOk};
+ghost use Rattle.std.specs.Prelude.{◌≡◌, ◌≤◌, ◌+◌, ◌++◌, List, ℕ, [], length, IfOk, OnOk};
 ghost use Rattle.std.specs.Option.{option_map};
-ghost use Rattle.file_host.specs.Making.{AtEachMoment, Draft, IsBeforeOrWhole, IsOpening, Named, keeping, making, named, reading};
+ghost use Rattle.log_host.specs.Host.{Holds, Torn};
+ghost use Rattle.log_host.specs.Past.{leaves_after};
+ghost use Rattle.file_host.specs.Calls.{file_calls};
+ghost use Rattle.file_host.specs.Making.{AtEachMoment, AtEachMomentOf, Draft, IsBeforeOrWhole, IsOpening, Named, keeping, making, named, reading, resuming};
 
 use crate::disk::Disk;
 use crate::file_fault::FileFault;
@@ -70,6 +73,24 @@ pub fn make_anew<D: Disk>(
 {
     keep(disk, name, cut)?;
     make(disk, name, bytes)
+}
+
+/// Goes on with the file that was taken and read: writes bytes over those at a place of it, and syncs
+/// it.
+///
+/// # Errors
+///
+/// `Unavailable` if the file cannot be written or synced. A crash leaves the file as it was read, but
+/// for any bytes in that place.
+pub fn resume<D: Disk>(disk: &mut D, at: usize, bytes: &[u8]) -> Result<(), FileFault>
+    requires opening { IsOpening (D.past disk.old) }
+    ensures resumed { OnOk result (D.past disk.new ≡ resuming at bytes.now ++ D.past disk.old) }
+    ensures stands { OnOk result ((file c : List ℕ) → leaves_after file (file_calls (D.past disk.new)) c [] → Holds file at bytes.now c) }
+    ensures any_moment { (file : List ℕ) → at + length bytes.now ≤ length file → AtEachMomentOf file (D.past disk.new) (Torn at (length bytes.now) file) }
+{
+    disk.write_at(at, bytes)?;
+    disk.sync()?;
+    Ok(())
 }
 
 // Makes the draft, writes and syncs it, and gives it the name.

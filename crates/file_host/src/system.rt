@@ -1,6 +1,8 @@
 // The disk of the system, over the calls of std.
 ghost use Rattle.std.specs.Prelude.{◌≡◌, [], ◌∷◌, IfSome, OnOk, true};
-ghost use Rattle.file_host.specs.Steps.{IsLocked, calls_of, is_drafted, is_kept, is_taken};
+ghost use Rattle.std.specs.Option.{is_some};
+ghost use Rattle.file_host.specs.Calls.{sync_call, write_call};
+ghost use Rattle.file_host.specs.Steps.{IsLocked, calls_of, is_drafted, is_kept, is_taken, is_written, was_drafted, was_taken};
 ghost use Rattle.file_host.specs.declared.steps.Part.TheVariants.{Log, Draft, Folder};
 
 use crate::disk::{CallFault, Disk};
@@ -38,6 +40,8 @@ pub struct SystemDisk<'r, R: Files<File = File>> {
     draft: Option<MadeDraft>,
     tape: Tape,
     ghost borne_out: { tape.past.calls ≡ calls_of files.steps.past },
+    ghost is_taken: { is_some taken ≡ true → was_taken tape.past.calls ≡ true },
+    ghost is_drafted: { was_drafted tape.past.calls ≡ is_some draft },
 }
 
 // Takes the lock on a part, for which its name has to stand still.
@@ -169,6 +173,59 @@ fn keep_beside<R: Files<File = File>>(
     }
 }
 
+// Writes bytes at a place of a part, unless that is behind its end.
+fn write_within<R: Files<File = File>>(
+    files: &mut SystemFiles<'_, R>,
+    opened: &Opened,
+    at: usize,
+    bytes: &[u8],
+) -> Result<(), CallFault>
+    requires written { is_written opened.now.part (calls_of files.old.steps.past) ≡ true }
+    ensures { calls_of files.new.steps.past ≡ write_call at bytes.now result ∷ calls_of files.old.steps.past }
+{
+    if !reaches(files, opened, at) {
+        return write_nothing(files, at, bytes);
+    }
+    match files.write(opened, at, bytes) {
+        Ok(()) => Ok(()),
+        Err(_) => Err(CallFault),
+    }
+}
+
+// Notes a write that is not made.
+fn write_nothing<R: Files<File = File>>(
+    files: &mut SystemFiles<'_, R>,
+    at: usize,
+    bytes: &[u8],
+) -> Result<(), CallFault>
+    ensures noted { calls_of files.new.steps.past ≡ write_call at bytes.now result ∷ calls_of files.old.steps.past }
+{
+    files.end(Asked::Write(at, bytes, false));
+    Err(CallFault)
+}
+
+// Waits until a part is on the disk.
+fn sync_part<R: Files<File = File>>(
+    files: &mut SystemFiles<'_, R>,
+    opened: &Opened,
+) -> Result<(), CallFault>
+    requires written { is_written opened.now.part (calls_of files.old.steps.past) ≡ true }
+    ensures { calls_of files.new.steps.past ≡ sync_call result ∷ calls_of files.old.steps.past }
+{
+    match files.sync_data(opened) {
+        Ok(()) => Ok(()),
+        Err(_) => Err(CallFault),
+    }
+}
+
+// Notes a sync that is not made.
+fn sync_nothing<R: Files<File = File>>(files: &mut SystemFiles<'_, R>) -> Result<(), CallFault>
+    ensures noted { calls_of files.new.steps.past ≡ sync_call result ∷ calls_of files.old.steps.past }
+{
+    files.end(Asked::Sync(false));
+    Err(CallFault)
+}
+
 // Returns the names that are known, or makes those that belong to a name.
 fn names_of(names: Option<Names>, alloc: Global, name: &str) -> Result<Names, AllocError> {
     match names {
@@ -278,25 +335,23 @@ impl<R: Files<File = File>> Disk for SystemDisk<'_, R> {
     }
 
     fn write_at(&mut self, at: usize, bytes: &[u8]) -> Result<(), CallFault> {
-        match &self.draft {
-            Some(draft) if reaches(&self.files, &draft.opened, at) => {
-                let done = self.files.write(&draft.opened, at, bytes);
-                self.tape = self.tape.then(Asked::Write(at, bytes, done.is_ok()));
-                done.map_err(|_| CallFault)
-            }
-            _ => self.give_up(Asked::Write(at, bytes, false)),
-        }
+        let done = match (&self.draft, &self.taken) {
+            (Some(draft), _) => write_within(&mut self.files, &draft.opened, at, bytes),
+            (None, Some(taken)) => write_within(&mut self.files, &taken.opened, at, bytes),
+            (None, None) => write_nothing(&mut self.files, at, bytes),
+        };
+        self.tape = self.tape.then(Asked::Write(at, bytes, done.is_ok()));
+        done
     }
 
     fn sync(&mut self) -> Result<(), CallFault> {
-        match &self.draft {
-            Some(draft) => {
-                let done = self.files.sync_data(&draft.opened);
-                self.tape = self.tape.then(Asked::Sync(done.is_ok()));
-                done.map_err(|_| CallFault)
-            }
-            None => self.give_up(Asked::Sync(false)),
-        }
+        let done = match (&self.draft, &self.taken) {
+            (Some(draft), _) => sync_part(&mut self.files, &draft.opened),
+            (None, Some(taken)) => sync_part(&mut self.files, &taken.opened),
+            (None, None) => sync_nothing(&mut self.files),
+        };
+        self.tape = self.tape.then(Asked::Sync(done.is_ok()));
+        done
     }
 
     fn rename(&mut self, name: &str) -> Result<(), CallFault> {

@@ -3,3 +3,4 @@ pub mod Growing
 pub mod Keeping
 pub mod Opened
 pub mod Widening
+pub mod Sealed

@@ -1,11 +1,11 @@
 -- A log that is restored, or refused.
-use Rattle.std.proofs.Common.{◌≡◌, ◌∙◌, inl, inr, ℕ, Bool, true, false, List, [], Ok, sym, ap, subst}
-use Rattle.std.specs.Prelude.{box_value}
+use Rattle.std.proofs.Common.{◌≡◌, ◌∙◌, inl, inr, ℕ, drop, Bool, true, false, List, [], Ok, refl, sym, ap, subst}
+use Rattle.std.specs.Prelude.{◌||◌, IsTrue, box_value, if◌then◌else◌}
 use Rattle.jsl_model.specs.Jobs.{JobTree}
 use Rattle.batch_history.specs.Rows.{History}
 use Rattle.durable_log.specs.Format.{LogRecord}
 use Rattle.durable_log.specs.Files.{StandsFor}
-use Rattle.durable_log.specs.Logs.{records_of}
+use Rattle.durable_log.specs.Logs.{records_of, EndsAt, IsAtRest, IsSealed}
 use Rattle.durable_log.specs.Shown.{HasFault}
 use Rattle.durable_log.specs.declared.reading.ReadFault.{ReadFault}
 use Rattle.durable_log.specs.declared.reading.ReadFault.TheVariants as reads
@@ -18,7 +18,7 @@ use Rattle.script_log.specs.declared.replays.ReplayFault.TheVariants as replays
 use Rattle.script_log.proofs.Lines.{history-catalogue}
 use Rattle.logged_script.specs.Histories.{Answers, is_kept, reply_at, jobs_read}
 use Rattle.logged_script.specs.Faults.{IsGrowthFault, IsOpeningFault, GoesOnFrom}
-use Rattle.logged_script.specs.Openings.{records_begun, fault_of_read, fault_of_replay}
+use Rattle.logged_script.specs.Openings.{records_begun, fault_of_read, fault_of_replay, IsCutOff}
 use Rattle.logged_script.specs.declared.engine.ScriptEngine.{ScriptEngine}
 use Rattle.logged_script.specs.declared.fault.LogFault.TheVariants.{InUse, Foreign, Later, Damaged, OtherCatalogue, OtherReply}
 use Rattle.logged_script.specs.declared.opening.OpeningFault.{OpeningFault}
@@ -60,3 +60,9 @@ pub not-replayed : (file line : List ℕ) (grown : Bool) (fault : ReplayFault) �
     → IsReplayFault is_kept reply_at line (records_of file) fault → IsOpeningFault file line (fault_of_replay fault)
 not-replayed file line grown (replays.OtherReply number) whole goes_on why = record { whole = whole; grown = grown; goes_on = goes_on; other = why }
 not-replayed file line grown replays.OutOfMemory whole goes_on why = tt
+
+-- the bytes that are cut off
+pub cut-by : (file cut : List ℕ) (at : ℕ) (clean sealed : Bool) → EndsAt file at → (IsTrue clean → IsAtRest file at) → (IsTrue sealed → IsSealed file at) → cut ≡ (if clean || sealed then [] else drop at file) → IsCutOff file cut
+cut-by file cut at true sealed ends rest seals is = record { at = at; ends = ends; bytes = inl (inl (rest refl), is) }
+cut-by file cut at false true ends rest seals is = record { at = at; ends = ends; bytes = inl (inr (seals refl), is) }
+cut-by file cut at false false ends rest seals is = record { at = at; ends = ends; bytes = inr is }

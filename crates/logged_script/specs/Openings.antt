@@ -8,7 +8,7 @@ use Rattle.jsl_json.specs.declared.fault.ReadFault.{ReadFault as CatalogueFault}
 use Rattle.jsl_json.specs.declared.fault.ReadFault.TheVariants as catalogues
 use Rattle.durable_log.specs.Format.{LogRecord}
 use Rattle.durable_log.specs.Files.{StandsFor}
-use Rattle.durable_log.specs.Logs.{records_of, IsAtRest, EndsAt}
+use Rattle.durable_log.specs.Logs.{records_of, IsAtRest, IsSealed, EndsAt}
 use Rattle.durable_log.specs.declared.reading.ReadFault.{ReadFault}
 use Rattle.durable_log.specs.declared.reading.ReadFault.TheVariants as reads
 use Rattle.script_log.specs.Runs.{catalogue_record}
@@ -40,11 +40,11 @@ abbrev pub KeepsHistories : List JobTree → List JobTree → Type 0
 KeepsHistories kept given = (limit : ℕ) (log : List Entry) → IsLegal limit (history kept log)
     → IsLegal limit (history given log) × (rows (history given log) ≡ record (rows (history kept log)) { catalogue = given })
 
--- the bytes that are cut off: those after the records, and none if the file is at rest
+-- the bytes that are cut off: those after the records, and none if the file is at rest or sealed
 pub record IsCutOff (file cut : List ℕ) : Type 0 where
   pub at : ℕ
   pub ends : EndsAt file at
-  pub bytes : (IsAtRest file at × (cut ≡ [])) ⊎ (cut ≡ drop at file)
+  pub bytes : ((IsAtRest file at ⊎ IsSealed file at) × (cut ≡ [])) ⊎ (cut ≡ drop at file)
 
 -- the fault of a log that was not read
 abbrev pub fault_of_read : ReadFault → OpeningFault

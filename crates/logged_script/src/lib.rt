@@ -6,7 +6,6 @@ mod catalogue;
 mod engine;
 mod fault;
 mod opening;
-mod outcome;
 mod run;
 mod text;
 
@@ -14,6 +13,5 @@ pub use catalogue::{catalogue_at, new_log};
 pub use engine::ScriptEngine;
 pub use fault::LogFault;
 pub use opening::{OpeningFault, RestoredLog, restore};
-pub use outcome::LoggedFault;
 pub use run::answer_restored;
 pub use text::log_fault_text;

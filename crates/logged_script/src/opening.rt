@@ -1,8 +1,8 @@
 // Restoring the log of a script: pure functions over the bytes of its file.
-ghost use Rattle.std.specs.Prelude.{◌≡◌, ◌≤◌, ◌^◌, List, [], length, map, Ok, IfOk, IfErr};
+ghost use Rattle.std.specs.Prelude.{◌≡◌, ◌≤◌, ◌^◌, List, [], length, map, false, Ok, IfOk, IfErr, IsTrue};
 ghost use Rattle.batch_history.specs.Legal.{most_operations};
 ghost use Rattle.durable_log.specs.Files.{StandsFor};
-ghost use Rattle.durable_log.specs.Logs.{records_of, IsRest};
+ghost use Rattle.durable_log.specs.Logs.{records_of, IsRest, Reopens};
 ghost use Rattle.durable_log.specs.Shown.{record_shown, IsEnd};
 ghost use Rattle.jsl_model.specs.Jobs.{JobTree};
 ghost use Rattle.script_engine.specs.Script.{catalogue_at};
@@ -58,8 +58,10 @@ impl From<AllocError> for OpeningFault {
 pub struct RestoredLog<J: JobRepository> {
     /// The bytes of the new file, and the place at which its log goes on.
     pub file: LogFile,
-    /// The bytes after the records of the old file, if its end wasn't clean.
+    /// The bytes after the records of the old file, if its end was neither clean nor sealed.
     pub cut: Vec<u8>,
+    /// Whether the old file was sealed, and a shut gate over its seal makes it the new one.
+    pub reopens: bool,
     /// The engine.
     pub engine: ScriptEngine<J>,
 }
@@ -168,6 +170,7 @@ fn new_file(
     ensures records { IfOk result (λ made. records_of made.file.bytes.items ≡ records_begun (records_of file.items) line.now grown) }
     ensures rest { IfOk result (λ made. IsRest made.file.bytes.items made.file.rest) }
     ensures cut { IfOk result (λ made. IsCutOff file.items made.cut.items) }
+    ensures reopens { IfOk result (λ made. IsTrue end.is_sealed → grown ≡ false → Reopens file.items made.file.bytes.items made.file.rest.end) }
 {
     let clean = restored(alloc, file, end)?;
     if !grown {
@@ -208,6 +211,7 @@ pub fn restore<J: JobRepository>(
 
     ensures rest { IfOk result (λ log. IsRest log.file.bytes.items log.file.rest) }
     ensures cut { IfOk result (λ log. IsCutOff file.items log.cut.items) }
+    ensures reopens { IfOk result (λ log. IsTrue log.reopens → Reopens file.items log.file.bytes.items log.file.rest.end) }
     ensures answers { IfOk result (λ log. Answers J.limit J.stands log.engine (history_of (records_of log.file.bytes.items))) }
     ensures fault { IfErr result (IsOpeningFault file.items line.now) }
 {
@@ -216,10 +220,12 @@ pub fn restore<J: JobRepository>(
         Err(fault) => return Err(fault),
     };
     let Replayed { end, grown, engine } = ran;
+    let reopens = end.is_sealed && !grown;
     match new_file(alloc, file, end, line, grown) {
         Ok(made) => Ok(RestoredLog {
             file: made.file,
             cut: made.cut,
+            reopens,
             engine,
         }),
         Err(error) => Err(OpeningFault::from(error)),

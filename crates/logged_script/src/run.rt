@@ -1,5 +1,5 @@
 // The run of a script over a log.
-ghost use Rattle.std.specs.Prelude.{◌≡◌, []};
+ghost use Rattle.std.specs.Prelude.{◌≡◌, ◌≤◌, []};
 ghost use Rattle.log_host.specs.Host.{LeavesOnly};
 ghost use Rattle.durable_log.specs.Logs.{records_of, IsSettled, waiting_in};
 ghost use Rattle.script_lines.specs.Lines.{lines_since};
@@ -8,22 +8,28 @@ ghost use Rattle.script_log.specs.Hosts.{hosting, state_of, account, GoesOn};
 ghost use Rattle.script_log.specs.Reading.{reading, MayReadInTurn};
 ghost use Rattle.script_log.specs.Covered.{Covered};
 ghost use Rattle.logged_script.specs.Histories.{Answers, is_kept, reply_at};
-ghost use Rattle.logged_script.specs.Logged.{IsAnsweredOver, outcome_of_run};
+ghost use Rattle.script_log.specs.Faults.{UnlessBroken};
+ghost use Rattle.script_log.specs.Ran.{IsIdle};
+ghost use Rattle.logged_script.specs.Logged.{Ends, IsAnsweredOver};
 
 use crate::engine::ScriptEngine;
-use crate::outcome::{LoggedFault, unanswered};
 use durable_log::{Host, Log};
 use job_repository::JobRepository;
 use script_lines::InputBuffer;
 use script_log::{Reader, RunFault, answer_lines};
 use std::alloc::Global;
 
-fn outcome_of(ran: Result<(), RunFault>) -> Result<(), LoggedFault>
-    ensures { result ≡ outcome_of_run ran }
+// Ends a log: seals it, unless the file or the listener failed.
+fn end_log<H: Host>(outcome: &Result<(), RunFault>, log: Log<H>) -> H
+    requires { UnlessBroken outcome.now (IsIdle (hosting H.seen H.heard H.may_leave H.moment H.left_since H.origin H.file_faults H.listener_faults) log) }
+    ensures ends { Ends (hosting H.seen H.heard H.may_leave H.moment H.left_since H.origin H.file_faults H.listener_faults) outcome.now log.host result }
+    ensures file { H.file_faults log.host ≤ H.file_faults result }
+    ensures listener { H.listener_faults result ≡ H.listener_faults log.host }
+    ensures origin { H.origin result ≡ H.origin log.host }
 {
-    match ran {
-        Ok(()) => Ok(()),
-        Err(fault) => Err(unanswered(fault)),
+    match outcome {
+        Err(fault) if fault.is_broken() => log.into_host(),
+        _ => log.seal(),
     }
 }
 
@@ -32,14 +38,16 @@ fn outcome_of(ran: Result<(), RunFault>) -> Result<(), LoggedFault>
 /// listener.
 ///
 /// Each accepted call is a record of the log. It is on the disk before its reply is sent. Replies
-/// are sent before the reader is asked for more.
+/// are sent before the reader is asked for more. At the end the log is sealed, unless the file or the
+/// listener failed.
 ///
 /// # Errors
 ///
 /// - `Read` if the reader failed, or may not be called again. The replies to all complete lines
 ///   were sent.
 /// - `Write` if the listener failed.
-/// - `Log` if the file failed or is full. No reply to a line that isn't on the disk was sent.
+/// - `Log` if the file failed (`Failed`) or is full (`Full`). No reply to a line that isn't on the
+///   disk was sent.
 /// - `OutOfMemory` if memory is refused. The replies to the lines before were sent. At most one line
 ///   was read that has no reply.
 pub fn answer_restored<J: JobRepository, R: Reader<H>, H: Host>(
@@ -48,7 +56,7 @@ pub fn answer_restored<J: JobRepository, R: Reader<H>, H: Host>(
     source: &mut R,
     mut log: Log<H>,
     mut engine: ScriptEngine<J>,
-) -> (Result<(), LoggedFault>, H)
+) -> (Result<(), RunFault>, H)
     requires settled { IsSettled H.seen H.heard H.may_leave log }
     requires nothing_waits { waiting_in log ≡ [] }
     requires answers { Answers J.limit J.stands engine (history_of (records_of (H.seen log.host))) }
@@ -65,9 +73,16 @@ pub fn answer_restored<J: JobRepository, R: Reader<H>, H: Host>(
 
     ensures outcome { let d = hosting H.seen H.heard H.may_leave H.moment H.left_since H.origin H.file_faults H.listener_faults in
         IsAnsweredOver (state_of d log.host) (reading (R.tape source.old) (R.tape source.new) input.old input.new) (state_of d result.1) result.0 }
-    ensures goes_on { GoesOn (hosting H.seen H.heard H.may_leave H.moment H.left_since H.origin H.file_faults H.listener_faults) log.host result.1 }
+
+    // The file is sealed at no moment before its end, and then only after all its bytes are on the
+    // disk.
+    ensures sealing { let d = hosting H.seen H.heard H.may_leave H.moment H.left_since H.origin H.file_faults H.listener_faults in
+        (last : H) × GoesOn d log.host last × Ends d result.0 last result.1 }
+
+    ensures origin { H.origin result.1 ≡ H.origin log.host }
 {
-    let ran = answer_lines(alloc, input, source, &mut log, &mut engine);
+    let outcome = answer_lines(alloc, input, source, &mut log, &mut engine);
     drop(engine);
-    (outcome_of(ran), log.into_host())
+    let host = end_log(&outcome, log);
+    (outcome, host)
 }

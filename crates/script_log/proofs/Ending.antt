@@ -96,7 +96,7 @@ module _ {D : Type 0} (d : Hosting D) (keeps : History → List ℕ → Bool) (r
           any_moment = covered-begun lines settled only;
           covers = λ f o at. covered-longer keeps reply known told0 [] lines lines f o refl (steady-covers keeps reply known told0 [] s f o steady at);
         };
-        goes_on = goes-none d log0.host;
+        goes_on = goes-none d log0 settled only;
         settled = settled;
         stands_now = subst (λ (ls : List (List ℕ)). stands (after_all keeps (history_of known) ls)) (sym no) stands_now;
       }

@@ -134,7 +134,7 @@ module _ {D : Type 0} (d : Hosting D) where
     room = λ room. room;
     passed_on = inl refl;
     any_moment = begun d.moment d.left_since log0.host (Passing (standing d.seen d.heard log0 out0)) (λ f o left. settled-passing d.seen d.heard d.may_leave log0 out0 f o settled (only f o left));
-    goes_on = goes-none d log0.host;
+    goes_on = goes-none d log0 settled only;
   }
 
   -- the reader may be called for more of the line

@@ -22,7 +22,7 @@ use Rattle.script_log.specs.SoFar.{CoveredSince, account_due, RanSoFar}
 use Rattle.script_log.specs.Ran.{Ran}
 use Rattle.script_log.specs.declared.fault.RunFault.{RunFault}
 use Rattle.script_log.specs.declared.fault.RunFault.TheVariants as faults
-use Rattle.script_log.proofs.Failing.{goes-none, goes-two}
+use Rattle.script_log.proofs.Failing.{OnlyNow, goes-none, goes-two}
 use Rattle.script_log.proofs.Lines.{history-after}
 use Rattle.script_log.proofs.Wanting.{lines-begun}
 use Rattle.script_log.proofs.Going.{broken-answered, broken-unless}
@@ -154,8 +154,8 @@ module _ {D : Type 0} (d : Hosting D) (keeps : History → List ℕ → Bool) (r
 
 -- memory was refused before the first line
 pub ran-nothing : {D : Type 0} (d : Hosting D) (keeps : History → List ℕ → Bool) (reply : History → List ℕ → List ℕ) (stands : History → Type 0) (r : Told) (p : Unread) (log : Log D)
-    → IsSettled d.seen d.heard d.may_leave log → waiting_in log ≡ [] → Ran d (answering keeps reply) stands (reading r r p p) log log (Err faults.OutOfMemory)
-ran-nothing d keeps reply stands r p log settled none = record {
+    → IsSettled d.seen d.heard d.may_leave log → waiting_in log ≡ [] → OnlyNow d log.host → Ran d (answering keeps reply) stands (reading r r p p) log log (Err faults.OutOfMemory)
+ran-nothing d keeps reply stands r p log settled none only = record {
   run = record {
     read = none-read r p;
     answered = record {
@@ -172,7 +172,7 @@ ran-nothing d keeps reply stands r p log settled none = record {
     ended = tt;
     cause = tt;
   };
-  goes_on = goes-none d log.host;
+  goes_on = goes-none d log settled only;
   idle = λ _. (settled, none);
   stands_now = tt;
 }

@@ -1,9 +1,9 @@
 -- The meaning of a host, and its states.
 use Rattle.std.specs.Prelude.{ℕ, ◌≡◌, ◌≤◌, List}
-use Rattle.log_host.specs.Host.{Outcomes}
+use Rattle.log_host.specs.Host.{Outcomes, LeavesOnly}
 use Rattle.log_host.specs.Past.{Past}
 use Rattle.durable_log.specs.Format.{LogRecord}
-use Rattle.durable_log.specs.Logs.{records_of}
+use Rattle.durable_log.specs.Logs.{records_of, Unsealed}
 
 -- THE MEANING OF A HOST: the members of its trait, by which contracts speak of it
 pub record Hosting (D : Type 0) : Type 1 where
@@ -43,8 +43,9 @@ account records heard = record { records = records; heard = heard }
 abbrev pub account_of : State → Account
 account_of s = account (records_of s.file) s.heard
 
--- a host went on: it has its origin, and counts no fewer failures
+-- a host went on: it has its origin, and counts no fewer failures. At no moment meanwhile was its file sealed
 pub record GoesOn {D : Type 0} (d : Hosting D) (old new : D) : Type 0 where
   pub file : d.file_faults old ≤ d.file_faults new
   pub listener : d.listener_faults old ≤ d.listener_faults new
   pub origin : d.origin new ≡ d.origin old
+  pub unsealed : LeavesOnly d.moment d.left_since old new Unsealed

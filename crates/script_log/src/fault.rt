@@ -23,8 +23,8 @@ pub enum RunFault {
 }
 
 impl RunFault {
-    // Checks whether the file or the listener failed, so that the log is of no more use.
-    pub(crate) fn is_broken(self) -> bool
+    /// Checks whether the file or the listener failed, so that the log is of no more use.
+    pub fn is_broken(self) -> bool
         ensures { result ≡ is_broken self }
     {
         match self {

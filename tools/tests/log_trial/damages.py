@@ -7,7 +7,7 @@ from collections.abc import Callable, Iterator
 from dataclasses import dataclass
 from pathlib import Path
 
-from log_trial.log_file import CATALOGUE, HEADER, MAX_BATCH, OPEN, SHUT, Record, Refused, is_open, log_of, opened, read
+from log_trial.log_file import CATALOGUE, HEADER, MAX_BATCH, OPEN, SEAL, Record, Refused, at_rest, is_open, log_of, opened, read
 from log_trial.samples import JOB, NIGHTLY, catalogue_of, lines_of_one, path_of
 from log_trial.script import lines_of, script_of, want_log
 from program import DONE, LOG_REFUSED, Ended, Program, cut_of, want
@@ -54,14 +54,16 @@ def check_file(program: Program, what: str, file: bytes, given: bytes, log: Path
 
 
 def check_opening(program: Program, sample: Sample, log: Path) -> None:
-    """An unharmed log opens, as a new file with the same bytes and permissions. A new log is readable by its owner alone."""
-    log.write_bytes(sample.file())
-    log.chmod(0o640)
-    before = log.stat()
-    want("an unharmed log", program.over(log, sample.given + b"\n"), Ended(DONE))
-    want_log("an unharmed log", log, sample.file())
-    want("an unharmed log: its permissions", log.stat().st_mode, before.st_mode)
-    want("an unharmed log: a new file", log.stat().st_ino == before.st_ino, False)
+    """A sealed log goes on in its file. One at rest is made anew, with the same bytes and permissions. A new log is readable by
+    its owner alone."""
+    for what, file, goes_on in [("a sealed log", sample.file(), True), ("a log at rest", at_rest(sample.file()), False)]:
+        log.write_bytes(file)
+        log.chmod(0o640)
+        before = log.stat()
+        want(what, program.over(log, sample.given + b"\n"), Ended(DONE))
+        want_log(what, log, sample.file())
+        want(f"{what}: its permissions", log.stat().st_mode, before.st_mode)
+        want(f"{what}: the same file", log.stat().st_ino == before.st_ino, goes_on)
     log.unlink()
     want("a new log", program.over(log, sample.given + b"\n"), Ended(DONE))
     want("a new log: its permissions", log.stat().st_mode & 0o777, 0o600)
@@ -69,7 +71,7 @@ def check_opening(program: Program, sample: Sample, log: Path) -> None:
 
 def check_long_end(program: Program, sample: Sample, log: Path) -> None:
     """A log with more bytes behind its end than one batch can be is damaged, and one with as many is not."""
-    file, place = sample.file(), len(sample.file()) - len(SHUT)
+    file, place = sample.file(), len(sample.file()) - len(SEAL)
     for size, faulty in ((MAX_BATCH, False), (MAX_BATCH + 1, True)):
         log.write_bytes(file + bytes(size))
         damaged = Refused("LogDamaged", record=len(sample.records), byte=place)

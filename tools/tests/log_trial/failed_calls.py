@@ -140,7 +140,7 @@ def check_call(failer: Failer, case: Case, number: int) -> None:
 
 
 def cases_of(failer: Failer) -> Iterator[tuple[str, list[bytes], bytes | None]]:
-    """Scripts over a new log, over a log, and over a torn one, each with the log that it begins with."""
+    """Scripts over a new log, over a sealed one, one at rest and a torn one, each with the log that it begins with."""
     catalogue, *lines = (CRATE / "stdin").read_bytes().splitlines(keepends=True)
     failer.lay(None)
     failer.run([catalogue, *lines[:2]])
@@ -148,7 +148,8 @@ def cases_of(failer: Failer) -> Iterator[tuple[str, list[bytes], bytes | None]]:
     # What a crash leaves before the gate of a batch is opened: it is cut off when the log is opened.
     torn = begun + b" o 00000001 00000001"
     yield "a script over a new log", [catalogue, *lines], None
-    yield "a script over a log", [catalogue, *lines[2:]], begun
+    yield "a script over a sealed log", [catalogue, *lines[2:]], begun
+    yield "a script over a log at rest", [catalogue, *lines[2:]], log_file.at_rest(begun)
     yield "a script over a torn log", [catalogue, *lines[2:]], torn
 
 

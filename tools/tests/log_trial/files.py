@@ -9,7 +9,7 @@ from contextlib import contextmanager
 from pathlib import Path
 
 from log_trial.faults import CLAIM, CLAIMED, FIRST, FOREIGN, GIVEN, GOOD, NOT_JSON, START, STARTED, STARTING
-from log_trial.log_file import log_of
+from log_trial.log_file import at_rest, log_of
 from log_trial.samples import catalogue_of, path_of
 from log_trial.script import want_log
 from program import DONE, FAILED, LOG_REFUSED, REFUSED_WORDS, Ended, Program, over, want
@@ -27,7 +27,7 @@ def check_in_use(program: Program, log: Path) -> None:
         holder.stdin.write(GIVEN + b"\n" + START + b"\n")
         holder.stdin.flush()
         want("the first of two programs", holder.stdout.readline(), STARTED)
-        file = log_of([FIRST, STARTING])
+        file = at_rest(log_of([FIRST, STARTING]))
         want("the second of two programs", program.over(log, GIVEN + b"\n" + CLAIM + b"\n"), IN_USE)
         want("the second, by another catalogue", program.over(log, catalogue_of() + b"\n"), IN_USE)
         want("the second, with no catalogue", program.over(log, b"\n"), NOT_JSON)
@@ -76,9 +76,10 @@ def check_draft(program: Program, log: Path) -> None:
         want("a draft that is in use: it", (draft.read_bytes(), log.exists()), (GOOD * 2, False))
     want("a draft that was left", program.over(log, GIVEN + b"\n"), Ended(DONE))
     want_log("a draft that was left", log, log_of([FIRST]))
+    log.write_bytes(at_rest(log.read_bytes()))
     draft.write_bytes(b"old")
-    want("a draft beside a log", program.over(log, GIVEN + b"\n" + START + b"\n"), Ended(DONE, STARTED))
-    want_log("a draft beside a log", log, MADE)
+    want("a draft beside a log at rest", program.over(log, GIVEN + b"\n" + START + b"\n"), Ended(DONE, STARTED))
+    want_log("a draft beside a log at rest", log, MADE)
 
 
 def check_cut_by_another(program: Program, log: Path) -> None:
@@ -197,8 +198,10 @@ def check_permissions(program: Program, folder: Path) -> None:
         want_log(f"a log of mode {mode:o}", log, GOOD)
     with permission(folder, 0o500):
         want("a folder that is closed", program.over(folder / "other", SCRIPT), FAILED)
-        want("a log in a folder that is closed", program.over(log, GIVEN + b"\n"), FAILED)
-    want_log("a folder that is closed", log, GOOD)
+        want("a sealed log in a folder that is closed", program.over(log, GIVEN + b"\n"), Ended(DONE))
+        log.write_bytes(at_rest(GOOD))
+        want("a log at rest in a folder that is closed", program.over(log, GIVEN + b"\n"), FAILED)
+    want_log("a folder that is closed", log, at_rest(GOOD))
 
 
 # Trials of a log at a path in an empty folder, and those that make folders of their own.

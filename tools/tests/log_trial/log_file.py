@@ -8,7 +8,7 @@ from collections.abc import Iterable
 from dataclasses import dataclass
 
 HEADER = b"bctlog2\n"
-OPEN, SHUT = b"111", b"000"
+OPEN, SHUT, SEAL = b"111", b"000", b"sss"
 CATALOGUE, OPERATION = b"c", b"o"
 # A crash leaves no more bytes than these after a gate that is not open.
 MAX_BATCH = 2**25 + 128
@@ -107,13 +107,18 @@ def blocks_of(records: Iterable[Record], link: Link = FIRST_LINK) -> bytes:
 
 
 def log_of(records: Iterable[Record]) -> bytes:
-    """The bytes of a log with these records."""
-    return HEADER + blocks_of(records) + SHUT
+    """The bytes of a log with these records whose run ended well: it is sealed."""
+    return HEADER + blocks_of(records) + SEAL
+
+
+def at_rest(log: bytes) -> bytes:
+    """The same log before its run ended, or after a crash."""
+    return log.removesuffix(SEAL) + SHUT
 
 
 @dataclass(frozen=True)
 class Contents:
-    """The records of a file, the byte at which they end, and the bytes that the file has after it was opened."""
+    """The records of a file, the byte at which they end, and the bytes that the file has after a run that ended well."""
 
     records: list[Record]
     end: int
@@ -157,7 +162,7 @@ def read(file: bytes) -> Contents:
         link = record.link(link)
     if len(file) > place + 3 + MAX_BATCH:
         raise Refused("LogDamaged", record=len(records), byte=place)
-    return Contents(records, place, file[:place] + SHUT)
+    return Contents(records, place, file[:place] + SEAL)
 
 
 def jobs_of(line: bytes) -> list[object]:
@@ -179,7 +184,7 @@ def with_given(contents: Contents, given: bytes) -> list[Record]:
 
 
 def opened(file: bytes, given: bytes) -> bytes:
-    """The bytes that a file has after it was opened with this catalogue, if each of its lines is answered as it was."""
+    """The bytes that a file has after a run with this catalogue and no line, if each of its own lines is answered as it was."""
     contents = read(file)
     added = with_given(contents, given)[len(contents.records) :]
-    return contents.after[: contents.end] + blocks_of(added, link_behind(contents.records)) + SHUT
+    return contents.after[: contents.end] + blocks_of(added, link_behind(contents.records)) + SEAL

@@ -10,6 +10,7 @@ from functools import cache, partial
 from itertools import islice
 from random import Random
 
+from log_trial.log_file import at_rest
 from power_trial.checks import Opener, Trial, check_moments, moments_of
 from power_trial.disk import Disk, Left, folder_of
 from power_trial.journal import FOLDER_SYNC, SYNC, SYNCS
@@ -59,6 +60,12 @@ def old_log(bench: Bench, sizes: tuple[int, int], catalogue: bytes = CATALOGUE) 
     return Start(night_over(bench, catalogue, sizes), left, BEFORE)
 
 
+def log_at_rest(bench: Bench, sizes: tuple[int, int]) -> Start:
+    """A log that isn't sealed, as a run leaves it that was killed between two calls."""
+    start = old_log(bench, sizes)
+    return replace(start, left=((LOG, at_rest(start.log())),))
+
+
 def torn_log(bench: Bench, sizes: tuple[int, int]) -> Start:
     """A log that a power cut tore in a run over it: the longest with bytes behind its end that has the same operations."""
     start = old_log(bench, sizes)
@@ -80,6 +87,7 @@ STARTS: dict[str, Callable[[Bench, tuple[int, int]], Start]] = {
     "a new log": new_log,
     "a new log beside a draft": old_draft,
     "a log": old_log,
+    "a log at rest": log_at_rest,
     "a torn log": torn_log,
     "a log whose catalogue grows": partial(old_log, catalogue=GROWN),
 }

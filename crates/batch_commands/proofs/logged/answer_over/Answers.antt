@@ -1,8 +1,8 @@
-use Rattle.batch_commands.proofs.Readying.{made-by, lines-by, no-log-by}
+use Rattle.batch_commands.proofs.Readying.{file-ready, lines-by, no-log-by}
 use Rattle.batch_commands.proofs.logged.answer_over.Goals as goal
 
-pub answer_in-requires-clause-made : goal.answer_in-requires-clause-made
-answer_in-requires-clause-made g c = made-by _ _ _ _ _ c.requires.opening c.in-Ok-make_ready.ensures.ready
+pub answer_in-requires-clause-ready : goal.answer_in-requires-clause-ready
+answer_in-requires-clause-ready g c = file-ready _ _ _ _ _ c.requires.opening c.in-Ok-make_ready.ensures.ready
 
 pub returns-in-Ok-make_ready : goal.returns-in-Ok-make_ready
 returns-in-Ok-make_ready g c =

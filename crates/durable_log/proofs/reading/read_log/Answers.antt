@@ -1,5 +1,6 @@
 use Rattle.std.proofs.Common.{◌-◌, ◌∙◌, sym, length}
-use Rattle.durable_log.proofs.Found.{part-stands, part-ends, part-link, part-within, part-clean, part-shut, part-fault}
+use Rattle.durable_log.specs.Format.{shut, seal}
+use Rattle.durable_log.proofs.Found.{part-stands, part-ends, part-link, part-within, part-with, part-gate, part-fault}
 use Rattle.durable_log.proofs.reading.read_log.Goals as goal
 
 pub returns-in-Err-clause-fault : goal.returns-in-Err-clause-fault
@@ -22,7 +23,11 @@ returns-clause-end c =
       ends = part-ends file part ours _ _ all end (λ i. end);
       link = c.in-Ok.ensures.link ∙ sym (part-link file part ours _ _ all);
       clean = (
-        λ is. part-clean file part ours _ _ all end (λ i. end) (c.is_shut.ensures.0 is),
-        λ at_rest. c.is_shut.ensures.1 (part-shut file part ours _ _ all end (λ i. end) at_rest),
+        λ is. part-with file part ours _ _ all shut end (λ i. end) (c.is_gate.ensures.0 is),
+        λ ended. c.is_gate.ensures.1 (part-gate file part ours _ _ all shut end (λ i. end) ended),
+      );
+      sealed = (
+        λ is. part-with file part ours _ _ all seal end (λ i. end) (c.is_gate-2.ensures.0 is),
+        λ ended. c.is_gate-2.ensures.1 (part-gate file part ours _ _ all seal end (λ i. end) ended),
       );
     }

@@ -39,17 +39,17 @@ returns-in-Err-clause-cause g c =
     (λ is. c.commit.ensures.failed (c.in-Err.is ∙ ap Err is)) (λ is. c.commit.ensures.full (c.in-Err.is ∙ ap Err is))
 
 pub returns-in-Err-clause-goes_on : goal.returns-in-Err-clause-goes_on
-returns-in-Err-clause-goes_on g c = goes-written (hosting g.H.Host.seen g.H.Host.heard g.H.Host.may_leave g.H.Host.moment g.H.Host.left_since g.H.Host.origin g.H.Host.file_faults g.H.Host.listener_faults) c.args.log.now.host c.commit.new.self.host c.commit.ensures.later c.commit.ensures.listener c.commit.ensures.origin
+returns-in-Err-clause-goes_on g c = goes-written (hosting g.H.Host.seen g.H.Host.heard g.H.Host.may_leave g.H.Host.moment g.H.Host.left_since g.H.Host.origin g.H.Host.file_faults g.H.Host.listener_faults) c.args.log.now.host c.commit.new.self.host c.commit.ensures.later c.commit.ensures.listener c.commit.ensures.origin c.commit.ensures.unsealed
 
 pub returns-in_err-tell_all-clause-goes_on : goal.returns-in_err-tell_all-clause-goes_on
 returns-in_err-tell_all-clause-goes_on g c =
     let d = hosting g.H.Host.seen g.H.Host.heard g.H.Host.may_leave g.H.Host.moment g.H.Host.left_since g.H.Host.origin g.H.Host.file_faults g.H.Host.listener_faults in
-    goes-two d c.args.log.now.host c.commit.new.self.host c.tell_all.new.log.host (goes-written d c.args.log.now.host c.commit.new.self.host c.commit.ensures.later c.commit.ensures.listener c.commit.ensures.origin) c.tell_all.ensures.goes_on
+    goes-two d c.args.log.now.host c.commit.new.self.host c.tell_all.new.log.host (goes-written d c.args.log.now.host c.commit.new.self.host c.commit.ensures.later c.commit.ensures.listener c.commit.ensures.origin c.commit.ensures.unsealed) c.tell_all.ensures.goes_on
 
 pub returns-clause-goes_on : goal.returns-clause-goes_on
 returns-clause-goes_on g c =
     let d = hosting g.H.Host.seen g.H.Host.heard g.H.Host.may_leave g.H.Host.moment g.H.Host.left_since g.H.Host.origin g.H.Host.file_faults g.H.Host.listener_faults in
-    goes-two d c.args.log.now.host c.commit.new.self.host c.tell_all.new.log.host (goes-written d c.args.log.now.host c.commit.new.self.host c.commit.ensures.later c.commit.ensures.listener c.commit.ensures.origin) c.tell_all.ensures.goes_on
+    goes-two d c.args.log.now.host c.commit.new.self.host c.tell_all.new.log.host (goes-written d c.args.log.now.host c.commit.new.self.host c.commit.ensures.later c.commit.ensures.listener c.commit.ensures.origin c.commit.ensures.unsealed) c.tell_all.ensures.goes_on
 
 pub returns-clause-room : goal.returns-clause-room
 returns-clause-room g c = none-short (hosting g.H.Host.seen g.H.Host.heard g.H.Host.may_leave g.H.Host.moment g.H.Host.left_since g.H.Host.origin g.H.Host.file_faults g.H.Host.listener_faults) c.tell_all.new.log c.in_ok-tell_all.ensures.settled c.tell_all.ensures.nothing_waits

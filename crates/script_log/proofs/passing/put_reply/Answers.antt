@@ -3,6 +3,8 @@ use Rattle.durable_log.specs.Logs.{records_of}
 use Rattle.durable_log.proofs.Moments.{begun, weaker, then_leaves}
 use Rattle.script_log.specs.Passing.{standing, Passing}
 use Rattle.script_log.proofs.Passed.{passing-longer, told-passing, settled-passing, told-behind, ok-map}
+use Rattle.script_log.specs.Hosts.{hosting}
+use Rattle.script_log.proofs.Failing.{goes-none, goes-two}
 use Rattle.script_log.proofs.passing.put_reply.Goals as goal
 
 pub returns-then-text-room-clause-any_moment : goal.returns-then-text-room-clause-any_moment
@@ -39,3 +41,11 @@ returns-clause-any_moment g c =
     let told = weaker g.H.Host.moment g.H.Host.left_since mid c.tell_all.new.log.host _ (Passing t) c.tell_all.ensures.any_moment
     (λ f o at. told-passing t (records_of (g.H.Host.seen mid)) (g.H.Host.heard mid) c.args.output.now c.args.text.now f o all.records all.heard refl at) in
     then_leaves g.H.Host.moment g.H.Host.left_since old mid c.tell_all.new.log.host (Passing t) before told
+
+pub returns-then-text-room-clause-goes_on : goal.returns-then-text-room-clause-goes_on
+returns-then-text-room-clause-goes_on g c = goes-none (hosting g.H.Host.seen g.H.Host.heard g.H.Host.may_leave g.H.Host.moment g.H.Host.left_since g.H.Host.origin g.H.Host.file_faults g.H.Host.listener_faults) c.args.log.now c.requires (g.met.H.Host.only_now c.args.log.now.host)
+
+pub returns-clause-goes_on : goal.returns-clause-goes_on
+returns-clause-goes_on g c =
+    let d = hosting g.H.Host.seen g.H.Host.heard g.H.Host.may_leave g.H.Host.moment g.H.Host.left_since g.H.Host.origin g.H.Host.file_faults g.H.Host.listener_faults in
+    goes-two d c.args.log.now.host c.commit_and_tell.new.log.host c.tell_all.new.log.host c.commit_and_tell.ensures.goes_on c.tell_all.ensures.goes_on

@@ -13,7 +13,7 @@ loop-at-init g c =
     let log = c.args.log.now in
     record {
       within = omega arith;
-      goes_on = goes-none (hosting g.H.Host.seen g.H.Host.heard g.H.Host.may_leave g.H.Host.moment g.H.Host.left_since g.H.Host.origin g.H.Host.file_faults g.H.Host.listener_faults) log.host;
+      goes_on = goes-none (hosting g.H.Host.seen g.H.Host.heard g.H.Host.may_leave g.H.Host.moment g.H.Host.left_since g.H.Host.origin g.H.Host.file_faults g.H.Host.listener_faults) log c.requires.settled (g.met.H.Host.only_now log.host);
       told = sym (append-nil (g.H.Host.heard log.host));
       settled = c.requires.settled;
       nothing_waits = c.requires.nothing_waits;
@@ -48,7 +48,7 @@ loop-at-preserved g c =
     (λ f o told. told-whole _ (g.H.Host.heard start) (g.H.Host.heard c.loop-at.log.host) c.args.text.now c.loop-at.at f o i.told (subst (λ (l : List ℕ). Told (records_of l) (g.H.Host.heard c.loop-at.log.host) (range_from c.loop-at.at c.args.text.now) f o) i.seen told)) in
     record {
       within = told-within c.in-Ok.n c.loop-at.at c.args.text.now i.within c.in-Ok.ensures.bound;
-      goes_on = goes-two (hosting g.H.Host.seen g.H.Host.heard g.H.Host.may_leave g.H.Host.moment g.H.Host.left_since g.H.Host.origin g.H.Host.file_faults g.H.Host.listener_faults) start c.loop-at.log.host c.tell.new.self.host i.goes_on (goes-told (hosting g.H.Host.seen g.H.Host.heard g.H.Host.may_leave g.H.Host.moment g.H.Host.left_since g.H.Host.origin g.H.Host.file_faults g.H.Host.listener_faults) c.loop-at.log.host c.tell.new.self.host c.tell.ensures.later c.tell.ensures.file c.tell.ensures.origin);
+      goes_on = goes-two (hosting g.H.Host.seen g.H.Host.heard g.H.Host.may_leave g.H.Host.moment g.H.Host.left_since g.H.Host.origin g.H.Host.file_faults g.H.Host.listener_faults) start c.loop-at.log.host c.tell.new.self.host i.goes_on (goes-told (hosting g.H.Host.seen g.H.Host.heard g.H.Host.may_leave g.H.Host.moment g.H.Host.left_since g.H.Host.origin g.H.Host.file_faults g.H.Host.listener_faults) c.loop-at.log.host c.tell.new.self.host c.tell.ensures.later c.tell.ensures.file c.tell.ensures.origin c.tell.ensures.unsealed);
       told = told-more (g.H.Host.heard start) (g.H.Host.heard c.loop-at.log.host) _ c.args.text.now c.loop-at.at c.in-Ok.n i.told c.in-Ok.ensures.told;
       settled = c.in-Ok.ensures.settled;
       nothing_waits = c.tell.ensures.nothing_waits;
@@ -59,9 +59,9 @@ loop-at-preserved g c =
 pub returns-in-Err-clause-goes_on : goal.returns-in-Err-clause-goes_on
 returns-in-Err-clause-goes_on g c =
     let d = hosting g.H.Host.seen g.H.Host.heard g.H.Host.may_leave g.H.Host.moment g.H.Host.left_since g.H.Host.origin g.H.Host.file_faults g.H.Host.listener_faults in
-    goes-two d c.args.log.now.host c.loop-at.log.host c.tell.new.self.host c.loop-at.invariant.goes_on (goes-told d c.loop-at.log.host c.tell.new.self.host c.tell.ensures.later c.tell.ensures.file c.tell.ensures.origin)
+    goes-two d c.args.log.now.host c.loop-at.log.host c.tell.new.self.host c.loop-at.invariant.goes_on (goes-told d c.loop-at.log.host c.tell.new.self.host c.tell.ensures.later c.tell.ensures.file c.tell.ensures.origin c.tell.ensures.unsealed)
 
 pub returns-then-n-eq0-clause-goes_on : goal.returns-then-n-eq0-clause-goes_on
 returns-then-n-eq0-clause-goes_on g c =
     let d = hosting g.H.Host.seen g.H.Host.heard g.H.Host.may_leave g.H.Host.moment g.H.Host.left_since g.H.Host.origin g.H.Host.file_faults g.H.Host.listener_faults in
-    goes-two d c.args.log.now.host c.loop-at.log.host c.tell.new.self.host c.loop-at.invariant.goes_on (goes-told d c.loop-at.log.host c.tell.new.self.host c.tell.ensures.later c.tell.ensures.file c.tell.ensures.origin)
+    goes-two d c.args.log.now.host c.loop-at.log.host c.tell.new.self.host c.loop-at.invariant.goes_on (goes-told d c.loop-at.log.host c.tell.new.self.host c.tell.ensures.later c.tell.ensures.file c.tell.ensures.origin c.tell.ensures.unsealed)

@@ -28,7 +28,7 @@ loop-line-init g c =
           c.args.output.now running c.requires.settled c.requires.nothing_waits c.requires.empty (g.met.H.Host.only_now c.args.log.now.host);
       stands = c.requires.stands;
       room = none-short d c.args.log.now c.requires.settled c.requires.nothing_waits;
-      goes_on = goes-none d c.args.log.now.host;
+      goes_on = goes-none d c.args.log.now c.requires.settled (g.met.H.Host.only_now c.args.log.now.host);
     }
 
 pub next_line-requires-clause-in_turn : goal.next_line-requires-clause-in_turn

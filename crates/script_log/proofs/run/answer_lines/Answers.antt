@@ -14,7 +14,7 @@ pub returns-in_err-output-clause-ran : goal.returns-in_err-output-clause-ran
 returns-in_err-output-clause-ran g c =
     let d = hosting g.H.Host.seen g.H.Host.heard g.H.Host.may_leave g.H.Host.moment g.H.Host.left_since g.H.Host.origin g.H.Host.file_faults g.H.Host.listener_faults in
     let r = err_from_is_err_and c.from_residual.result c.from_residual.ensures.1 in
-    rw (r.1, r.2) (ran-nothing d g.E.Engine.keeps g.E.Engine.reply (g.E.Engine.stands c.args.engine.now) (g.R.Reader.tape c.args.source.now) c.args.input.now c.args.log.now c.requires.settled c.requires.nothing_waits)
+    rw (r.1, r.2) (ran-nothing d g.E.Engine.keeps g.E.Engine.reply (g.E.Engine.stands c.args.engine.now) (g.R.Reader.tape c.args.source.now) c.args.input.now c.args.log.now c.requires.settled c.requires.nothing_waits (g.met.H.Host.only_now c.args.log.now.host))
 
 pub returns-then-has_broken-clause-any_moment : goal.returns-then-has_broken-clause-any_moment
 returns-then-has_broken-clause-any_moment g c = c.answer_all-outcome.ensures.crashes.any_moment

@@ -8,6 +8,7 @@ use Rattle.durable_log.specs.Logs.{records_of, link_of, batch_records, waiting_i
 use Rattle.durable_log.proofs.Moments.{begun}
 use Rattle.durable_log.proofs.Links.{link-grown}
 use Rattle.durable_log.proofs.Waiting.{waiting-batch, nothing-waits, settled-both, settled-kept, kept-nothing}
+use Rattle.durable_log.proofs.Sealing.{settled-unsealed}
 use Rattle.durable_log.proofs.log.Log.commit.Goals as goal
 
 pub returns-then-is_empty-clause-acknowledged : goal.returns-then-is_empty-clause-acknowledged
@@ -87,3 +88,13 @@ pub returns-clause-nothing_waits : goal.returns-clause-nothing_waits
 returns-clause-nothing_waits g c =
     let none : c.clear.new.self.items ≡ [] = search rules in
     nothing-waits c.args.self.now.last c.clear.new.self.items none
+
+pub returns-then-is_empty-clause-unsealed : goal.returns-then-is_empty-clause-unsealed
+returns-then-is_empty-clause-unsealed g c =
+    let log = c.args.self.now in
+    begun g.H.Host.moment g.H.Host.left_since log.host _ (λ f o left. settled-unsealed _ _ _ log c.requires f o (g.met.H.Host.only_now log.host f o left))
+
+pub returns-then-len-ge-MAX_FILE-clause-unsealed : goal.returns-then-len-ge-MAX_FILE-clause-unsealed
+returns-then-len-ge-MAX_FILE-clause-unsealed g c =
+    let log = c.args.self.now in
+    begun g.H.Host.moment g.H.Host.left_since log.host _ (λ f o left. settled-unsealed _ _ _ log c.requires f o (g.met.H.Host.only_now log.host f o left))
