@@ -159,7 +159,7 @@ IsReopenedFrom (Some file) bytes end = Reopens file bytes end
 -- the calls by which a file gets ready: a shut gate is written over the seal of one that goes on; or it is made anew, after what
 -- was cut off is kept beside it
 abbrev pub getting_ready : Bool → List ℕ → ℕ → List ℕ → List ℕ → List Call → List Call
-getting_ready true name end cut bytes before = resuming end shut ++ before
+getting_ready true name end cut bytes before = resuming name end shut ++ before
 getting_ready false name end cut bytes before = making name bytes ++ keeping name cut before
 
 -- at each moment of these calls a crash leaves a file that goes on as it was, but for any bytes in place of its seal; or what the

@@ -176,7 +176,7 @@ fn write_ready<D: Disk>(disk: &mut D, name: &str, log: &RestoredLog) -> Result<(
     ensures any_moment { IsSafe log.now.reopens log.now.file.rest.end log.now.file.bytes.items (D.past disk.new) }
 {
     if log.reopens {
-        resume(disk, log.file.rest.end, &SHUT)
+        resume(disk, name, log.file.rest.end, &SHUT)
     } else {
         make_anew(disk, name, &log.cut, &log.file.bytes)
     }

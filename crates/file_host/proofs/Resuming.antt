@@ -66,11 +66,16 @@ module _ (file : List ℕ) (at : ℕ) (bytes : List ℕ) where
     after-sync k mid now mid_is is = subst since (sym (is ∙ ap (λ (l : List Call). (1, (0, ([], k))) ∷ l) mid_is))
         ((λ c left. synced k c (subst (λ (l : List Call). leaves_after file ((1, (0, ([], k))) ∷ (0, (at, (bytes, 1))) ∷ l) c []) opening.no_bytes left)), after-write 1 ((0, (at, (bytes, 1))) ∷ old) refl)
 
+    -- and its folder was synced, or not
+    pub after-folder : (name : List ℕ) (f : ℕ) (mid last now : List Call) → mid ≡ (0, (at, (bytes, 1))) ∷ old → last ≡ (1, (0, ([], 1))) ∷ mid → now ≡ (9, (0, (name, f))) ∷ last → since now
+    after-folder name f mid last now mid_is last_is is = subst since (sym (is ∙ ap (λ (l : List Call). (9, (0, (name, f))) ∷ l) (last_is ∙ ap (λ (l : List Call). (1, (0, ([], 1))) ∷ l) mid_is)))
+        ((λ c left. synced 1 c (subst (λ (l : List Call). leaves_after file ((1, (0, ([], 1))) ∷ (0, (at, (bytes, 1))) ∷ l) c []) opening.no_bytes left)), after-sync 1 ((0, (at, (bytes, 1))) ∷ old) ((1, (0, ([], 1))) ∷ (0, (at, (bytes, 1))) ∷ old) refl refl)
+
   -- and after the sync it has all of them
-  pub holds-all : (old mid now : List Call) → IsOpening old → mid ≡ (0, (at, (bytes, 1))) ∷ old → now ≡ (1, (0, ([], 1))) ∷ mid → (c : List ℕ) → leaves_after file (file_calls now) c [] → Holds file at bytes c
-  holds-all old mid now opening mid_is is c left =
+  pub holds-all : (name : List ℕ) (old mid last now : List Call) → IsOpening old → mid ≡ (0, (at, (bytes, 1))) ∷ old → last ≡ (1, (0, ([], 1))) ∷ mid → now ≡ (9, (0, (name, 1))) ∷ last → (c : List ℕ) → leaves_after file (file_calls now) c [] → Holds file at bytes c
+  holds-all name old mid last now opening mid_is last_is is c left =
       let all : file_calls now ≡ (1, (0, ([], 1))) ∷ (0, (at, (bytes, 1))) ∷ [] =
-      ap file_calls (is ∙ ap (λ (l : List Call). (1, (0, ([], 1))) ∷ l) mid_is) ∙ ap (λ (l : List Call). (1, (0, ([], 1))) ∷ (0, (at, (bytes, 1))) ∷ l) opening.no_bytes in
+      ap file_calls (is ∙ ap (λ (l : List Call). (9, (0, (name, 1))) ∷ l) (last_is ∙ ap (λ (l : List Call). (1, (0, ([], 1))) ∷ l) mid_is)) ∙ ap (λ (l : List Call). (1, (0, ([], 1))) ∷ (0, (at, (bytes, 1))) ∷ l) opening.no_bytes in
       by (subst (λ (l : List Call). leaves_after file l c []) all left)
     where
       by : leaves_after file ((1, (0, ([], 1))) ∷ (0, (at, (bytes, 1))) ∷ []) c [] → Holds file at bytes c

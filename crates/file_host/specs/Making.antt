@@ -68,9 +68,9 @@ abbrev pub AtEachMomentOf : List ℕ → List Call → (List ℕ → Type 0) →
 AtEachMomentOf file [] P = P file
 AtEachMomentOf file (call ∷ calls) P = ((c : List ℕ) → leaves_after file (file_calls (call ∷ calls)) c [] → P c) × AtEachMomentOf file calls P
 
--- the calls by which bytes are written over those at a place of a file that was read, the newest first
-abbrev pub resuming : ℕ → List ℕ → List Call
-resuming at bytes = (1, (0, ([], 1))) ∷ (0, (at, (bytes, 1))) ∷ []
+-- the calls by which bytes are written over those at a place of a file of this name that was read, the newest first
+abbrev pub resuming : List ℕ → ℕ → List ℕ → List Call
+resuming name at bytes = (9, (0, (name, 1))) ∷ (1, (0, ([], 1))) ∷ (0, (at, (bytes, 1))) ∷ []
 
 -- a file goes on as it was read, but for bytes that were written over its own; these are its bytes
 pub record IsResumed (calls : List Call) (bytes : List ℕ) : Type 0 where
@@ -80,7 +80,7 @@ pub record IsResumed (calls : List Call) (bytes : List ℕ) : Type 0 where
   pub opening : IsOpening before
   pub at : ℕ
   pub over : List ℕ
-  pub calls_are : calls ≡ resuming at over ++ reading name (Some file) before
+  pub calls_are : calls ≡ resuming name at over ++ reading name (Some file) before
   pub bytes_are : Holds file at over bytes
 
 -- the file of this name was made with these bytes, after an opening

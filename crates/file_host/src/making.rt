@@ -75,21 +75,22 @@ pub fn make_anew<D: Disk>(
     make(disk, name, bytes)
 }
 
-/// Goes on with the file that was taken and read: writes bytes over those at a place of it, and syncs
-/// it.
+/// Goes on with the file of this name that was taken and read: writes bytes over those at a place of
+/// it, and syncs it and its folder.
 ///
 /// # Errors
 ///
-/// `Unavailable` if the file cannot be written or synced. A crash leaves the file as it was read, but
-/// for any bytes in that place.
-pub fn resume<D: Disk>(disk: &mut D, at: usize, bytes: &[u8]) -> Result<(), FileFault>
+/// `Unavailable` if the file cannot be written or synced, or the folder not synced. A crash leaves
+/// the file as it was read, but for any bytes in that place.
+pub fn resume<D: Disk>(disk: &mut D, name: &str, at: usize, bytes: &[u8]) -> Result<(), FileFault>
     requires opening { IsOpening (D.past disk.old) }
-    ensures resumed { OnOk result (D.past disk.new ≡ resuming at bytes.now ++ D.past disk.old) }
+    ensures resumed { OnOk result (D.past disk.new ≡ resuming name.now at bytes.now ++ D.past disk.old) }
     ensures stands { OnOk result ((file c : List ℕ) → leaves_after file (file_calls (D.past disk.new)) c [] → Holds file at bytes.now c) }
     ensures any_moment { (file : List ℕ) → at + length bytes.now ≤ length file → AtEachMomentOf file (D.past disk.new) (Torn at (length bytes.now) file) }
 {
     disk.write_at(at, bytes)?;
     disk.sync()?;
+    disk.sync_folder(name)?;
     Ok(())
 }
 
