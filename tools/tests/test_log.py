@@ -14,7 +14,7 @@ from pathlib import Path
 
 import pytest
 
-from log_trial import catalogues, files
+from log_trial import catalogues, files, tags
 from log_trial.copies import check_copies
 from log_trial.damages import check_damage, check_long_end, check_opening, damages_of, sample_of
 from log_trial.failures import check_full_disk, failures, small_disk
@@ -95,6 +95,11 @@ def test_faults_of_a_log(program: Program, folder: Path, case: Refusal) -> None:
 @pytest.mark.parametrize("trial", catalogues.TRIALS, ids=name_of)
 def test_other_catalogues(program: Program, folder: Path, trial: Callable[[Program, Path], None]) -> None:
     trial(program, path_of(folder / "catalogues"))
+
+
+@pytest.mark.parametrize("trial", tags.TRIALS, ids=name_of)
+def test_tags(program: Program, folder: Path, trial: Callable[[Program, Path], None]) -> None:
+    trial(program, path_of(folder / "tags"))
 
 
 def test_failures(program: Program, folder: Path, pool: ThreadPoolExecutor, tell: Tell) -> None:

@@ -1,5 +1,5 @@
 -- The lines over a file that is ready.
-use Rattle.std.proofs.Common.{◌≡◌, inl, inr, ℕ, List, [], ◌++◌, Result, ap, subst}
+use Rattle.std.proofs.Common.{◌≡◌, inl, inr, ℕ, Bool, List, [], ◌++◌, Result, ap, subst}
 use Rattle.log_host.specs.Host.{Outcomes, LeavesOnly}
 use Rattle.log_host.specs.Past.{Call, Past, file_faults_after, listener_faults_after}
 use Rattle.file_host.specs.Calls.{file_calls}
@@ -40,24 +40,24 @@ module _ {D : Type 0} (p origin : D → Past) where
         },
       )
 
-  pub answers-by : (bytes : List ℕ) (x : Reading) (made d' : List Call) (w' : Held) (result : Result Unit OverLogFault) (before after : D) (outcome : Result Unit RunFault)
+  pub answers-by : (tags : Bool) (bytes : List ℕ) (x : Reading) (made d' : List Call) (w' : Held) (result : Result Unit OverLogFault) (before after : D) (outcome : Result Unit RunFault)
       → seen_of (p before) ≡ bytes → heard_of (p before) ≡ []
-      → LeavesOnly (λ h. moment_of (p h)) (λ h. left_since (p h)) before after (Covered is_kept reply_at (records_of (seen_of (p before))) (lines_in x) (heard_of (p before)))
+      → LeavesOnly (λ h. moment_of (p h)) (λ h. left_since (p h)) before after (Covered (is_kept tags) (reply_at tags) (records_of (seen_of (p before))) (lines_in x) (heard_of (p before)))
       → ((last : D) × GoesOn meaning before last × Ends meaning outcome last after)
-      → IsAnsweredOver (state_of meaning before) x (state_of meaning after) outcome
+      → IsAnsweredOver tags (state_of meaning before) x (state_of meaning after) outcome
       → result ≡ outcome_over outcome → d' ≡ file_calls (p after).calls ++ made → w'.bytes ≡ heard_of (p after)
-      → AnswersOver bytes x made d' w' result
-  answers-by bytes x made d' w' result before after outcome seen heard moments sealing ended status calls took =
+      → AnswersOver tags bytes x made d' w' result
+  answers-by tags bytes x made d' w' result before after outcome seen heard moments sealing ended status calls took =
       let since = LeavesOnly (λ h. moment_of (p h)) (λ h. left_since (p h)) before after in
-      let covered : since (Covered is_kept reply_at (records_of bytes) (lines_in x) []) =
-      subst (λ (l : List ℕ). since (Covered is_kept reply_at (records_of bytes) (lines_in x) l)) heard
-      (subst (λ (l : List ℕ). since (Covered is_kept reply_at (records_of l) (lines_in x) (heard_of (p before)))) seen moments) in
+      let covered : since (Covered (is_kept tags) (reply_at tags) (records_of bytes) (lines_in x) []) =
+      subst (λ (l : List ℕ). since (Covered (is_kept tags) (reply_at tags) (records_of bytes) (lines_in x) l)) heard
+      (subst (λ (l : List ℕ). since (Covered (is_kept tags) (reply_at tags) (records_of l) (lines_in x) (heard_of (p before)))) seen moments) in
       record {
         before = p before;
         after = p after;
         made_with = seen;
         nothing_heard = heard;
-        any_moment = leaves-past before after (Covered is_kept reply_at (records_of bytes) (lines_in x) []) covered;
+        any_moment = leaves-past before after (Covered (is_kept tags) (reply_at tags) (records_of bytes) (lines_in x) []) covered;
         last = p sealing.0;
         unsealed = leaves-past before sealing.0 _ sealing.1.unsealed;
         outcome = outcome;

@@ -1,42 +1,27 @@
 -- A run is put together: its start lines, its pool, its job executions, its first line, its last write.
-use Rattle.std.proofs.Common.{◌≡◌, ◌≢◌, ◌∙◌, ◌⊎◌, inl, inr, ℕ, ◌+◌, ◌<◌, ◌≤◌, Bool, true, false, List, [], ◌∷◌, ◌++◌, Option, Some, None, Result, Ok, Err, refl, sym, ap, subst, arith, append_assoc}
-use Rattle.std.proofs.lemmas.Bool.{false≢true}
+use Rattle.std.proofs.Common.{◌≡◌, inl, inr, ℕ, ◌+◌, List, [], ◌∷◌, ◌++◌, None, Result, Ok, Err, refl, sym, ap, subst, arith}
 use Rattle.std.proofs.lemmas.List.{append-nil}
 use Rattle.batch_ids.specs.declared.refusal.Refusal.{Refusal}
 use Rattle.batch_ids.specs.declared.refusal.Refusal.TheVariants.{RepositoryFull}
 use Rattle.jsl_model.specs.Jobs.{JobTree}
-use Rattle.jsl_json.specs.declared.fault.ReadFault.{ReadFault}
-use Rattle.jsl_json.specs.Catalogues.{is_out_of_memory}
 use Rattle.batch_history.proofs.Legal.{legal-nothing}
 use Rattle.batch_history.specs.Legal.{most_operations}
 use Rattle.batch_history.specs.declared.call.Entry.{Entry}
 use Rattle.seat_rules.specs.Places.{IsLegalLog}
 use Rattle.seat_rules.specs.declared.view.SessionView.{SessionView}
-use Rattle.script_lines.specs.Cut.{whole_lines, script_lines}
-use Rattle.script_lines.specs.declared.line.Line.{Line}
-use Rattle.script_lines.specs.declared.line_fault.LineFault.{LineFault}
-use Rattle.script_lines.specs.declared.line_fault.LineFault.TheVariants as line_faults
-use Rattle.script_lines.specs.Device.{Told, Held, Tells, Takes}
-use Rattle.script_lines.specs.Lines.{HasEnded, AreComplete, LineRead, IsBounded}
-use Rattle.script_lines.specs.Unread.{Unread, nothing_read}
-use Rattle.script_lines.proofs.Telling.{tells_nothing, takes_nothing}
-use Rattle.script_lines.proofs.Cutting.{Cutting, cut_short, cut_so_far, cut_all, cut_fault, cut_bounded, first_fault, first_bounded, next_bounded}
-use Rattle.script_text.specs.Faults.{fault_text}
+use Rattle.script_lines.specs.Device.{Told, Held}
+use Rattle.script_lines.specs.Unread.{Unread}
 use Rattle.script_text.specs.Replies.{reply_text}
 use Rattle.script_engine.specs.declared.fault.EngineFault.{EngineFault}
 use Rattle.script_engine.specs.declared.fault.EngineFault.TheVariants.{Catalogue, Read, Write, OutOfMemory}
-use Rattle.script_engine.specs.Faults.{engine_fault}
-use Rattle.script_engine.specs.Ran.{TellsFault}
-use Rattle.script_engine.specs.Script.{catalogue_at}
 use Rattle.batch_commands.specs.Listing.{AreListed}
-use Rattle.batch_commands.specs.Putting.{Grows, Breaks, Puts, Writes, Flushes, has_writer_failed}
+use Rattle.batch_commands.specs.Putting.{Grows, Breaks, Puts, Flushes}
 use Rattle.batch_commands.specs.Reads.{AreRead, AreReadTo}
-use Rattle.batch_commands.specs.Runs.{AreReplied, HasRun, IsDueText, IsPart, IsPoolText, IsRunText, IsUnopened, IsWhole, IsFaultText, LinesReplied, LinesRun}
+use Rattle.batch_commands.specs.Runs.{AreReplied, IsPoolText, IsRunText}
 use Rattle.batch_commands.specs.Starts.{AreStarted}
-use Rattle.batch_commands.specs.Turns.{IsDueBehind, IsPartOf, IsUnopenedOf, ListsAll, PutsReply, Runs, RunsSoFar, Started, Starts, pool_text}
-use Rattle.batch_commands.proofs.Putting.{put_nothing, unchanged, put_behind, broken, grows_on, grows_broken, grows_no_more, broken_no_more}
-use Rattle.batch_commands.proofs.Reading.{read_none, read_done}
-use Rattle.batch_commands.proofs.Replying.{puts_refused}
+use Rattle.batch_commands.specs.Turns.{IsPartOf, ListsAll, PutsReply, Runs, Started, Starts, pool_text}
+use Rattle.batch_commands.proofs.Putting.{put_nothing, grows_on, grows_broken, grows_no_more, broken_no_more}
+use Rattle.batch_commands.proofs.Reading.{read_none}
 
 -- ---- Behind the first line
 

@@ -1,13 +1,13 @@
 -- The last replies of a run are written.
-use Rattle.std.proofs.Common.{◌≡◌, ◌∙◌, ◌⊎◌, inl, inr, ℕ, ◌<◌, ◌≤◌, Bool, true, false, List, [], ◌∷◌, ◌++◌, Result, Ok, Err, refl, sym, ap, subst, arith}
+use Rattle.std.proofs.Common.{◌≡◌, ◌∙◌, inl, inr, ℕ, true, false, List, [], ◌++◌, Result, Ok, Err, refl, sym, ap, subst, arith}
 use Rattle.std.proofs.lemmas.Bool.{false≢true}
 use Rattle.std.proofs.lemmas.List.{append-nil}
 use Rattle.script_lines.specs.Cut.{whole_lines}
-use Rattle.script_lines.specs.Device.{Told, Held, Takes}
+use Rattle.script_lines.specs.Device.{Told, Held}
 use Rattle.script_lines.proofs.Telling.{tells_nothing, takes_nothing}
 use Rattle.script_engine.specs.declared.fault.EngineFault.{EngineFault}
 use Rattle.script_engine.specs.declared.fault.EngineFault.TheVariants.{Catalogue, Read, Write, OutOfMemory}
-use Rattle.batch_commands.specs.Putting.{Grows, Breaks, Writes, Flushes, has_writer_failed}
+use Rattle.batch_commands.specs.Putting.{Grows, Flushes, has_writer_failed}
 use Rattle.batch_commands.specs.Runs.{HasRun, IsDueText}
 use Rattle.batch_commands.specs.Turns.{RunsSoFar}
 use Rattle.batch_commands.proofs.Putting.{grows_no_more, broken_no_more}

@@ -10,3 +10,4 @@ pub mod Taking
 pub mod Building
 pub mod Readying
 pub mod Answering
+mod Words

@@ -1,11 +1,10 @@
 -- Job executions that are told of one after another.
-use Rattle.std.proofs.Common.{◌≡◌, ◌∙◌, ℕ, zero, suc, ◌+◌, ◌≤◌, List, [], ◌∷◌, ◌++◌, Result, Ok, Err, refl, sym, ap, subst, arith, add-one}
+use Rattle.std.proofs.Common.{◌≡◌, ℕ, ◌+◌, ◌≤◌, List, [], ◌++◌, Result, Ok, Err, refl, sym, ap, subst, arith, add-one}
 use mathlib.Core.List.{IsPrefix}
 use Rattle.batch_ids.specs.declared.refusal.Refusal.{Refusal}
 use Rattle.jsl_model.specs.Jobs.{JobTree}
 use Rattle.batch_history.specs.Answers.{answer}
-use Rattle.batch_history.specs.Due.{IsDue}
-use Rattle.batch_history.specs.Rows.{History, history}
+use Rattle.batch_history.specs.Rows.{history}
 use Rattle.batch_history.specs.declared.call.Entry.{Entry}
 use Rattle.batch_history.specs.declared.query.Answer.{Answer}
 use Rattle.batch_history.specs.declared.query.Query.TheVariants.{StepExecutions, JobExecution}
@@ -17,7 +16,7 @@ use Rattle.script_lines.specs.Device.{Held}
 use Rattle.script_engine.specs.declared.fault.EngineFault.{EngineFault}
 use Rattle.script_engine.specs.declared.fault.EngineFault.TheVariants.{Catalogue, Read, Write, OutOfMemory}
 use Rattle.batch_commands.specs.Listing.{AreListed, execution_line, listed_text, text_of}
-use Rattle.batch_commands.specs.Putting.{Grows, Breaks, Puts, Writes}
+use Rattle.batch_commands.specs.Putting.{Grows, Puts}
 use Rattle.batch_commands.specs.Turns.{Lists, ListsWith, ListsAll, PutsReply}
 use Rattle.batch_commands.proofs.Putting.{put_nothing, grows_on, grows_broken, grows_no_more}
 use Rattle.batch_commands.proofs.Replying.{puts_refused}

@@ -1,5 +1,5 @@
 -- The first line of a run, and what is done behind it.
-use Rattle.std.proofs.Common.{◌≡◌, ◌∙◌, ◌⊎◌, inl, inr, ℕ, ◌+◌, ◌<◌, ◌≤◌, false, List, [], ◌∷◌, ◌++◌, Option, Some, None, Result, Ok, Err, refl, sym, ap, subst, arith, append_assoc}
+use Rattle.std.proofs.Common.{◌≡◌, ◌∙◌, ◌⊎◌, inl, inr, ℕ, ◌+◌, false, List, [], ◌∷◌, ◌++◌, Option, None, Result, Ok, Err, refl, sym, ap, subst, arith, append_assoc}
 use Rattle.jsl_model.specs.Jobs.{JobTree}
 use Rattle.jsl_json.specs.declared.fault.ReadFault.{ReadFault}
 use Rattle.jsl_json.specs.Catalogues.{is_out_of_memory}
@@ -18,9 +18,9 @@ use Rattle.script_engine.specs.declared.fault.EngineFault.TheVariants.{Catalogue
 use Rattle.script_engine.specs.Faults.{engine_fault}
 use Rattle.script_engine.specs.Ran.{TellsFault}
 use Rattle.script_engine.specs.Script.{catalogue_at}
-use Rattle.batch_commands.specs.Putting.{Grows, Breaks, Writes}
+use Rattle.batch_commands.specs.Putting.{Grows}
 use Rattle.batch_commands.specs.Reads.{AreRead, AreReadTo}
-use Rattle.batch_commands.specs.Runs.{AreReplied, IsDueText, IsFaultText, IsPart, IsRunText, IsUnopened, IsWhole, LinesReplied, LinesRun}
+use Rattle.batch_commands.specs.Runs.{IsPart, IsUnopened, LinesReplied, LinesRun}
 use Rattle.batch_commands.specs.Turns.{IsDueBehind, IsPartOf, IsUnopenedOf, Runs, RunsSoFar}
 use Rattle.batch_commands.proofs.Putting.{put_nothing, unchanged, put_behind, broken}
 use Rattle.batch_commands.proofs.Reading.{read_done}

@@ -1,5 +1,5 @@
 -- A log that is made ready, and the lines over it.
-use Rattle.std.proofs.Common.{◌≡◌, ◌∙◌, inl, inr, ℕ, ◌+◌, List, [], ◌∷◌, ◌++◌, length, take, drop, Bool, true, false, Result, Ok, Err, refl, sym, ap, subst, arith, length-append}
+use Rattle.std.proofs.Common.{◌≡◌, ◌∙◌, inl, inr, ℕ, ◌+◌, List, [], ◌++◌, length, take, drop, Bool, true, false, Result, Ok, Err, refl, sym, ap, subst, arith, length-append}
 use Rattle.std.proofs.lemmas.Bool.{false≢true}
 use Rattle.std.proofs.lemmas.List.{append-nil, drop_all, take_at}
 use Rattle.std.specs.Prelude.{Option, Some, None, IsErrAnd, IsTrue}
@@ -7,10 +7,11 @@ use Rattle.jsl_model.specs.Jobs.{JobTree}
 use Rattle.log_host.specs.Host.{Holds}
 use Rattle.log_host.specs.Past.{Call}
 use Rattle.file_host.specs.Making.{AtEachMoment, IsBeforeOrWhole, IsOpening, IsReady as IsFileReady, keeping, reading as read_calls}
+use Rattle.file_host.proofs.Opening.{opening-kept}
 use Rattle.file_host.specs.declared.file_fault.FileFault.{FileFault}
 use Rattle.durable_log.specs.Format.{shut, seal}
 use Rattle.durable_log.specs.Logs.{records_of, Reopens}
-use Rattle.script_lines.specs.Device.{Told, Held}
+use Rattle.script_lines.specs.Device.{Told}
 use Rattle.script_lines.specs.Unread.{Unread, nothing_read}
 use Rattle.script_log.specs.Reading.{reading}
 use Rattle.batch_commands.specs.Devices.{Devices}
@@ -19,10 +20,10 @@ use Rattle.batch_commands.specs.declared.logged.Unready.{Unready}
 use Rattle.batch_commands.specs.declared.logged_fault.OverLogFault.{OverLogFault}
 
 -- the file got ready
-pub ready-by : (name line : List ℕ) (d m d' : List Call) (found : Option (List ℕ)) (bytes cut : List ℕ) (reopens : Bool) (end : ℕ)
-    → IsBegunFrom found line (records_of bytes) → IsCutFrom found cut → (IsTrue reopens → IsReopenedFrom found bytes end) → m ≡ read_calls name found d → d' ≡ getting_ready reopens name end cut bytes m
-    → IsSafe reopens end bytes d' → IsReady name line d d' bytes
-ready-by name line d m d' found bytes cut reopens end begun cut_off sealed read made moments = record {
+pub ready-by : (tags : Bool) (name line : List ℕ) (d m d' : List Call) (found : Option (List ℕ)) (bytes cut : List ℕ) (reopens : Bool) (end : ℕ)
+    → IsBegunFrom tags found line (records_of bytes) → IsCutFrom found cut → (IsTrue reopens → IsReopenedFrom found bytes end) → m ≡ read_calls name found d → d' ≡ getting_ready reopens name end cut bytes m
+    → IsSafe reopens end bytes d' → IsReady tags name line d d' bytes
+ready-by tags name line d m d' found bytes cut reopens end begun cut_off sealed read made moments = record {
   found = found;
   begun = begun;
   cut = cut;
@@ -40,9 +41,9 @@ safe-anew true end bytes bytes' d' anew same moments = absurd (false≢true (sym
 safe-anew false end bytes bytes' d' anew same moments = subst (λ (l : List ℕ). AtEachMoment d' (IsBeforeOrWhole l)) same moments
 
 -- the file did not get ready
-pub unmade-by : (name line : List ℕ) (d d' : List Call) (found : Option (List ℕ)) (bytes : List ℕ) (reopens : Bool) (end : ℕ) (fault : Unready) (why : FileFault)
-    → IsBegunFrom found line (records_of bytes) → (IsTrue reopens → IsReopenedFrom found bytes end) → IsSafe reopens end bytes d' → fault ≡ unready_by_file why → IsUnready name line d d' fault
-unmade-by name line d d' found bytes reopens end fault why begun sealed moments is = inr (inr (record {
+pub unmade-by : (tags : Bool) (name line : List ℕ) (d d' : List Call) (found : Option (List ℕ)) (bytes : List ℕ) (reopens : Bool) (end : ℕ) (fault : Unready) (why : FileFault)
+    → IsBegunFrom tags found line (records_of bytes) → (IsTrue reopens → IsReopenedFrom found bytes end) → IsSafe reopens end bytes d' → fault ≡ unready_by_file why → IsUnready tags name line d d' fault
+unmade-by tags name line d d' found bytes reopens end fault why begun sealed moments is = inr (inr (record {
   found = found;
   bytes = bytes;
   begun = begun;
@@ -53,10 +54,6 @@ unmade-by name line d d' found bytes reopens end fault why begun sealed moments 
   why = why;
   named = is;
 }))
-
-opening-kept : (name cut : List ℕ) (calls : List Call) → IsOpening calls → IsOpening (keeping name cut calls)
-opening-kept name [] calls opening = opening
-opening-kept name (b ∷ cut) calls opening = record { no_bytes = opening.no_bytes; no_rename = opening.no_rename }
 
 opening-read : (name : List ℕ) (found : Option (List ℕ)) (calls : List Call) → IsOpening calls → IsOpening (read_calls name found calls)
 opening-read name None calls opening = record { no_bytes = opening.no_bytes; no_rename = opening.no_rename }
@@ -85,14 +82,14 @@ ready-of name d d' bytes true (Some file) cut end opening sealed calls = inr (re
 ready-of name d d' bytes false found cut end opening sealed calls = inl (keeping name cut (read_calls name found d), opening-kept name cut _ (opening-read name found d opening), calls)
 
 -- a log that is ready has a file that is
-pub file-ready : (name line : List ℕ) (d d' : List Call) (bytes : List ℕ) → IsOpening d → IsReady name line d d' bytes → (n : List ℕ) × IsFileReady d' n bytes
-file-ready name line d d' bytes opening ready = (name, ready-of name d d' bytes ready.reopens ready.found ready.cut ready.end opening ready.sealed ready.calls)
+pub file-ready : (tags : Bool) (name line : List ℕ) (d d' : List Call) (bytes : List ℕ) → IsOpening d → IsReady tags name line d d' bytes → (n : List ℕ) × IsFileReady d' n bytes
+file-ready tags name line d d' bytes opening ready = (name, ready-of name d d' bytes ready.reopens ready.found ready.cut ready.end opening ready.sealed ready.calls)
 
 -- the lines are answered
-pub lines-by : (name : List ℕ) (x x' : Devices) (m : Told) (p0 p p' : Unread) (line line' : List ℕ) (catalogue : List JobTree) (bytes : List ℕ) (made : List Call) (result : Result Unit OverLogFault)
-    → p0 ≡ nothing_read → line' ≡ line → HasFirst x.told m p0 p line catalogue → IsReady name line' x.disk made bytes
-    → AnswersOver bytes (reading m x'.told p p') made x'.disk x'.held result → IsLogServed name x x' result
-lines-by name x x' m p0 p p' line line' catalogue bytes made result nothing same first ready answers = inr (inr (inr (
+pub lines-by : (tags : Bool) (name : List ℕ) (x x' : Devices) (m : Told) (p0 p p' : Unread) (line line' : List ℕ) (catalogue : List JobTree) (bytes : List ℕ) (made : List Call) (result : Result Unit OverLogFault)
+    → p0 ≡ nothing_read → line' ≡ line → HasFirst x.told m p0 p line catalogue → IsReady tags name line' x.disk made bytes
+    → AnswersOver tags bytes (reading m x'.told p p') made x'.disk x'.held result → IsLogServed tags name x x' result
+lines-by tags name x x' m p0 p p' line line' catalogue bytes made result nothing same first ready answers = inr (inr (inr (
   m,
   p,
   p',
@@ -101,23 +98,23 @@ lines-by name x x' m p0 p p' line line' catalogue bytes made result nothing same
   bytes,
   made,
   subst (λ (u : Unread). HasFirst x.told m u p line catalogue) nothing first,
-  subst (λ (l : List ℕ). IsReady name l x.disk made bytes) same ready,
+  subst (λ (l : List ℕ). IsReady tags name l x.disk made bytes) same ready,
   answers,
 )))
 
 -- there is no log
-pub no-log-by : (name : List ℕ) (x x' : Devices) (p0 p : Unread) (line line' : List ℕ) (catalogue : List JobTree) (fault : Unready) (result : Result Unit OverLogFault)
-    → p0 ≡ nothing_read → line' ≡ line → HasFirst x.told x'.told p0 p line catalogue → IsUnready name line' x.disk x'.disk fault
-    → IsErrAnd result (TellsUnready fault x.held x'.held) → IsLogServed name x x' result
-no-log-by name x x' p0 p line line' catalogue fault (Ok done) nothing same first unready tells = absurd tells
-no-log-by name x x' p0 p line line' catalogue fault (Err end) nothing same first unready tells = inr (inr (inl (
+pub no-log-by : (tags : Bool) (name : List ℕ) (x x' : Devices) (p0 p : Unread) (line line' : List ℕ) (catalogue : List JobTree) (fault : Unready) (result : Result Unit OverLogFault)
+    → p0 ≡ nothing_read → line' ≡ line → HasFirst x.told x'.told p0 p line catalogue → IsUnready tags name line' x.disk x'.disk fault
+    → IsErrAnd result (TellsUnready fault x.held x'.held) → IsLogServed tags name x x' result
+no-log-by tags name x x' p0 p line line' catalogue fault (Ok done) nothing same first unready tells = absurd tells
+no-log-by tags name x x' p0 p line line' catalogue fault (Err end) nothing same first unready tells = inr (inr (inl (
   p,
   line,
   catalogue,
   fault,
   end,
   subst (λ (u : Unread). HasFirst x.told x'.told u p line catalogue) nothing first,
-  subst (λ (l : List ℕ). IsUnready name l x.disk x'.disk fault) same unready,
+  subst (λ (l : List ℕ). IsUnready tags name l x.disk x'.disk fault) same unready,
   refl,
   tells,
 )))

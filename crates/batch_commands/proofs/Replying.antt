@@ -1,5 +1,5 @@
 -- A reply that is put is the one that is due.
-use Rattle.std.proofs.Common.{◌≡◌, ◌∙◌, ℕ, ◌+◌, ◌<◌, ◌≤◌, Bool, true, false, cond, List, [], ◌∷◌, ◌++◌, length, Result, Ok, Err, refl, sym, ap, subst, arith, length-append}
+use Rattle.std.proofs.Common.{◌≡◌, ◌∙◌, ℕ, ◌+◌, ◌≤◌, Bool, true, false, cond, List, [], ◌∷◌, ◌++◌, length, Result, Ok, Err, refl, sym, ap, subst, arith, length-append}
 use Rattle.std.specs.Prelude.{is_ok}
 use Rattle.batch_ids.specs.Refusals.{is_out_of_memory}
 use Rattle.batch_ids.specs.declared.refusal.Refusal.{Refusal}
@@ -17,7 +17,6 @@ use Rattle.batch_history.specs.declared.call.Reply.{Reply}
 use Rattle.batch_history.specs.declared.call.Reply.TheVariants.{Execution}
 use Rattle.batch_operator.specs.Calls.{IsReplied}
 use Rattle.seat_rules.proofs.Prefixes.{entries_short}
-use Rattle.seat_rules.specs.Places.{IsLegalLog}
 use Rattle.seat_rules.specs.Views.{one_if}
 use Rattle.seat_rules.specs.declared.view.SessionView.{SessionView}
 use Rattle.sessions.specs.Answered.{entered, operation}

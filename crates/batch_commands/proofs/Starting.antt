@@ -1,10 +1,8 @@
 -- Start lines that are replied to one after another.
-use Rattle.std.proofs.Common.{◌≡◌, ◌≢◌, ◌∙◌, inl, inr, ℕ, ◌+◌, ◌-◌, ◌^◌, ◌==◌, ◌<◌, ◌≤◌, Bool, true, false, cond, List, [], ◌∷◌, ◌++◌, length, Option, Some, None, Result, Ok, Err, refl, sym, ap, subst, arith, append_assoc, add_assoc, zero-add, add-zero}
+use Rattle.std.proofs.Common.{◌≡◌, ◌≢◌, ◌∙◌, inl, inr, ℕ, ◌+◌, ◌-◌, ◌^◌, ◌==◌, ◌<◌, ◌≤◌, Bool, true, false, cond, List, [], ◌∷◌, ◌++◌, length, Some, None, Result, Ok, Err, refl, sym, ap, subst, arith, append_assoc, add_assoc, zero-add, add-zero}
 use Rattle.std.specs.Prelude.{min}
 use Rattle.std.proofs.lemmas.List.{append-nil}
-use mathlib.Core.List.{IsPrefix}
 use Rattle.jsl_model.specs.Jobs.{JobTree}
-use Rattle.batch_history.specs.Legal.{most_operations}
 use Rattle.batch_history.specs.Rows.{History, history}
 use Rattle.batch_history.specs.declared.call.Entry.{Entry}
 use Rattle.seat_rules.proofs.Prefixes.{prefix_self}
@@ -28,7 +26,7 @@ use Rattle.script_engine.specs.declared.fault.EngineFault.TheVariants.{Catalogue
 use Rattle.script_engine.specs.Faults.{engine_fault}
 use Rattle.script_engine.specs.Script.{start_at, text_for, history_for}
 use Rattle.batch_commands.specs.Putting.{Grows, Breaks, Puts}
-use Rattle.batch_commands.specs.Reads.{AreRead, AreReadTo}
+use Rattle.batch_commands.specs.Reads.{AreRead}
 use Rattle.batch_commands.specs.Starts.{AreStarted, command_for, command_of_start, made_for, start_text, start_after, start_made}
 use Rattle.batch_commands.specs.Turns.{GoesOn, PutsFault, Started, Starts, Turns, TurnsTo, TurnsToLine}
 use Rattle.batch_commands.proofs.Putting.{put_nothing, grows_on, grows_broken, grows_no_more}

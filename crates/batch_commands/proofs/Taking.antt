@@ -1,13 +1,13 @@
 -- The words that ask for a script or a run are words that the command takes.
-use Rattle.std.proofs.Common.{◌≡◌, ◌≢◌, ◌∙◌, ◌⊎◌, inl, inr, ℕ, zero, suc, ◌+◌, ◌-◌, ◌^◌, ◌<◌, ◌≤◌, ◌==◌, ◌&&◌, List, [], ◌∷◌, ◌++◌, Bool, true, false, cond, length, drop, Option, Some, None, refl, sym, ap, ap₂, subst, codes, arith, lt-ltb, le-leb, ltb-false, ltb-true, eqb-true}
+use Rattle.std.proofs.Common.{◌≡◌, ◌∙◌, ◌⊎◌, inl, inr, ℕ, zero, suc, ◌+◌, ◌-◌, ◌^◌, ◌<◌, ◌≤◌, ◌==◌, ◌&&◌, List, [], ◌∷◌, ◌++◌, Bool, true, false, cond, drop, refl, sym, ap, ap₂, subst, codes, arith, lt-ltb, le-leb, ltb-false, ltb-true, eqb-true}
 use Rattle.std.specs.Prelude.{nat_le, nat_lt}
 use Rattle.std.specs.List.{list_all}
 use Rattle.std.specs.Char.{digit_value}
-use Rattle.std.specs.Str.Parse.{AllDigits, IsNumeral, digits_value, without_leading_plus}
-use Rattle.clap.specs.Words.{Text, takes}
-use Rattle.clap.specs.ValueTests.{is_numeral, is_unsigned_in}
+use Rattle.std.specs.Str.Parse.{AllDigits, digits_value, without_leading_plus}
+use Rattle.clap.specs.Words.{takes}
+use Rattle.clap.specs.ValueTests.{is_unsigned_in}
 use Rattle.clap.proofs.OnLiterals.{clap_on_literals}
-use Rattle.batch_commands.specs.Asked.{IsAsked, IsLogName, IsNumberText, AsksFor, HasOptions, NamesLog}
+use Rattle.batch_commands.specs.Asked.{IsAsked, IsLogName, IsNumberText, AsksFor, HasOptions, HasTags, NamesLog}
 use Rattle.clap.specs.declared.error.kind.ErrorKind.{ErrorKind}
 use Rattle.clap.specs.declared.error.kind.ErrorKind.TheVariants.{DisplayHelp, DisplayVersion, OutOfMemory}
 use Rattle.batch_commands.specs.Commands.{batchctl_app}
@@ -170,25 +170,32 @@ takes_rest : (workers : ℕ) (rest options : List (List ℕ)) → 1 ≤ workers 
 takes_rest workers rest options some few (inl is) asks = ap (λ (ws : List (List ℕ)). takes batchctl_app (codes "run" ∷ ws)) is ∙ (takes_options workers options some few asks).0
 takes_rest workers rest options some few (inr is) asks = ap (λ (ws : List (List ℕ)). takes batchctl_app (codes "run" ∷ ws)) is ∙ (takes_options workers options some few asks).1
 
-takes_log_one : (first : ℕ) (rest : List ℕ) → takes batchctl_app (codes "script" ∷ (codes "--log=" ++ first ∷ rest) ∷ []) ≡ true
-unfolding clap_on_literals
-takes_log_one first rest = refl
+-- a script with a log, and with `--tags` before or behind it
+abbrev AreTaken : List (List ℕ) → Type 0
+AreTaken options = (takes batchctl_app (codes "script" ∷ options) ≡ true) × (takes batchctl_app (codes "script" ∷ codes "--tags" ∷ options) ≡ true)
+    × (takes batchctl_app (codes "script" ∷ (options ++ codes "--tags" ∷ [])) ≡ true)
 
-takes_log_two : (first : ℕ) (rest : List ℕ) → (first == 45) ≡ false → takes batchctl_app (codes "script" ∷ codes "--log" ∷ (first ∷ rest) ∷ []) ≡ true
+takes_log_one : (first : ℕ) (rest : List ℕ) → AreTaken ((codes "--log=" ++ first ∷ rest) ∷ [])
 unfolding clap_on_literals
-takes_log_two first rest e = simp e
+takes_log_one first rest = (refl, refl, refl)
 
--- a script with a log
-takes_log : (name : List ℕ) (options : List (List ℕ)) → IsLogName name → NamesLog name options → takes batchctl_app (codes "script" ∷ options) ≡ true
-takes_log name options (first, rest, is, e) (inl by) =
-    ap (λ (os : List (List ℕ)). takes batchctl_app (codes "script" ∷ os)) by ∙ ap (λ (n : List ℕ). takes batchctl_app (codes "script" ∷ (codes "--log=" ++ n) ∷ [])) is ∙ takes_log_one first rest
-takes_log name options (first, rest, is, e) (inr by) =
-    ap (λ (os : List (List ℕ)). takes batchctl_app (codes "script" ∷ os)) by ∙ ap (λ (n : List ℕ). takes batchctl_app (codes "script" ∷ codes "--log" ∷ n ∷ [])) is ∙ takes_log_two first rest e
+takes_log_two : (first : ℕ) (rest : List ℕ) → (first == 45) ≡ false → AreTaken (codes "--log" ∷ (first ∷ rest) ∷ [])
+unfolding clap_on_literals
+takes_log_two first rest e = (simp e, simp e, simp e)
+
+takes_log : (name : List ℕ) (options : List (List ℕ)) → IsLogName name → NamesLog name options → AreTaken options
+takes_log name options (first, rest, is, e) (inl by) = subst AreTaken (sym by) (subst (λ (n : List ℕ). AreTaken ((codes "--log=" ++ n) ∷ [])) (sym is) (takes_log_one first rest))
+takes_log name options (first, rest, is, e) (inr by) = subst AreTaken (sym by) (subst (λ (n : List ℕ). AreTaken (codes "--log" ∷ n ∷ [])) (sym is) (takes_log_two first rest e))
+
+takes_tags : (tags : Bool) (options words : List (List ℕ)) → HasTags tags options words → AreTaken options → takes batchctl_app (codes "script" ∷ words) ≡ true
+takes_tags false options words is taken = ap (λ (ws : List (List ℕ)). takes batchctl_app (codes "script" ∷ ws)) is ∙ taken.0
+takes_tags true options words (inl is) taken = ap (λ (ws : List (List ℕ)). takes batchctl_app (codes "script" ∷ ws)) is ∙ taken.1
+takes_tags true options words (inr is) taken = ap (λ (ws : List (List ℕ)). takes batchctl_app (codes "script" ∷ ws)) is ∙ taken.2
 
 -- THE WORDS that ask for a script or a run are taken
 pub asked_taken : (arguments : Arguments) (words : List (List ℕ)) → IsAsked arguments words → takes batchctl_app words ≡ true
 asked_taken Script words is = ap (takes batchctl_app) is ∙ takes_script
-asked_taken (LoggedScript log) words (named, (rest, is, names)) = ap (takes batchctl_app) is ∙ takes_log log.now rest named names
+asked_taken (LoggedScript log tags) words (named, (rest, options, is, has, names)) = ap (takes batchctl_app) is ∙ takes_tags tags options rest has (takes_log log.now options named names)
 asked_taken (Run workers) words (some, few, (rest, options, is, has, asks)) = ap (takes batchctl_app) is ∙ takes_rest workers rest options some few has asks
 
 -- want of memory is no text that the words ask for

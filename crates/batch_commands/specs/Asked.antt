@@ -1,5 +1,5 @@
 -- The commands that the words of the command line ask for.
-use Rattle.std.specs.Prelude.{◌≡◌, ◌⊎◌, ◌≤◌, ◌==◌, ℕ, false, List, [], ◌∷◌, ◌++◌, codes}
+use Rattle.std.specs.Prelude.{◌≡◌, ◌⊎◌, ◌≤◌, ◌==◌, ℕ, Bool, true, false, List, [], ◌∷◌, ◌++◌, codes}
 use Rattle.std.specs.Str.Parse.{IsNumeral, digits_value, without_leading_plus}
 use Rattle.batch_commands.specs.declared.asked.Arguments.{Arguments}
 use Rattle.batch_commands.specs.declared.asked.Arguments.TheVariants.{Script, LoggedScript, Run}
@@ -27,11 +27,16 @@ IsLogName name = (first : ℕ) × (rest : List ℕ) × (name ≡ first ∷ rest)
 abbrev pub NamesLog : List ℕ → List (List ℕ) → Type 0
 NamesLog name words = (words ≡ (codes "--log=" ++ name) ∷ []) ⊎ (words ≡ codes "--log" ∷ name ∷ [])
 
+-- words are these options, and say whether lines may have tags: they do by `--tags` at the begin or at the end
+abbrev pub HasTags : Bool → List (List ℕ) → List (List ℕ) → Type 0
+HasTags false options words = words ≡ options
+HasTags true options words = (words ≡ codes "--tags" ∷ options) ⊎ (words ≡ options ++ codes "--tags" ∷ [])
+
 -- one word asks for a script, and more words for one with a log. For a run, it is the first word; the options
 -- ask for 1 to 16 workers
 abbrev pub IsAsked : Arguments → List (List ℕ) → Type 0
 IsAsked Script words = words ≡ codes "script" ∷ []
-IsAsked (LoggedScript log) words = IsLogName log.now × ((rest : List (List ℕ)) × (words ≡ codes "script" ∷ rest) × NamesLog log.now rest)
+IsAsked (LoggedScript log tags) words = IsLogName log.now × ((rest : List (List ℕ)) × (options : List (List ℕ)) × (words ≡ codes "script" ∷ rest) × HasTags tags options rest × NamesLog log.now options)
 IsAsked (Run workers) words = (1 ≤ workers) × (workers ≤ 16) × ((rest : List (List ℕ)) × (options : List (List ℕ)) × (words ≡ codes "run" ∷ rest) × HasOptions options rest × AsksFor workers options)
 
 -- the words ask for neither a script nor a run

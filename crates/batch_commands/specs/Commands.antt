@@ -1,7 +1,8 @@
 -- The commands of the command line, as clap's contracts see them.
-use Rattle.std.specs.Prelude.{◌≡◌, ◌⊎◌, true, List, [], ◌∷◌, Some, codes}
+use Rattle.std.specs.Prelude.{◌≡◌, ◌⊎◌, true, [], ◌∷◌, Some, codes}
 use Rattle.clap.specs.Words.{App, Rule, kind_of, new_app, new_rule, with_rule, with_subcommand}
 use Rattle.clap.specs.Simple.{on_top}
+use Rattle.clap.specs.declared.builder.action.ArgAction.TheVariants.{SetTrue}
 use Rattle.clap.specs.declared.builder.value_parser.ValueParser.TheVariants.{Unsigned, String as TextParser}
 use Rattle.clap.specs.declared.error.Error.{Error}
 use Rattle.clap.specs.declared.error.kind.ErrorKind.TheVariants.{DisplayHelp, DisplayVersion}
@@ -14,9 +15,13 @@ workers_rule = record (new_rule (codes "workers")) { long = Some (codes "workers
 abbrev pub log_rule : Rule
 log_rule = record (new_rule (codes "log")) { long = Some (codes "log"); value_names = 1; parser = Some TextParser }
 
+-- the option `--tags` takes nothing
+abbrev pub tags_rule : Rule
+tags_rule = record (new_rule (codes "tags")) { long = Some (codes "tags"); action = Some SetTrue }
+
 -- the command `script`
 abbrev pub script_app : App
-script_app = with_rule (new_app (codes "script")) log_rule
+script_app = with_rule (with_rule (new_app (codes "script")) log_rule) tags_rule
 
 -- the command `run`
 abbrev pub run_app : App

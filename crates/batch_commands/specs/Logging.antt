@@ -137,14 +137,14 @@ unready_by_log openings.OutOfMemory = unready.OutOfMemory
 
 -- the records with which a run begins: those of the file that was found, and the given catalogue exactly if it has
 -- more jobs; without a file that catalogue alone
-abbrev pub IsBegunFrom : Option (List ℕ) → List ℕ → List LogRecord → Type 0
-IsBegunFrom None line now = now ≡ catalogue_record line ∷ []
-IsBegunFrom (Some file) line now = IsBegun file line now
+abbrev pub IsBegunFrom : Bool → Option (List ℕ) → List ℕ → List LogRecord → Type 0
+IsBegunFrom tags None line now = now ≡ catalogue_record line ∷ []
+IsBegunFrom tags (Some file) line now = IsBegun tags file line now
 
 -- the reason why a run does not begin with the file that was found
-abbrev pub IsFaultFrom : Option (List ℕ) → List ℕ → OpeningFault → Type 0
-IsFaultFrom None line fault = fault ≡ openings.OutOfMemory
-IsFaultFrom (Some file) line fault = IsOpeningFault file line fault
+abbrev pub IsFaultFrom : Bool → Option (List ℕ) → List ℕ → OpeningFault → Type 0
+IsFaultFrom tags None line fault = fault ≡ openings.OutOfMemory
+IsFaultFrom tags (Some file) line fault = IsOpeningFault tags file line fault
 
 -- the bytes that are cut off: those behind the end of the file that was found
 abbrev pub IsCutFrom : Option (List ℕ) → List ℕ → Type 0
@@ -169,9 +169,9 @@ IsSafe true end bytes d' = (file : List ℕ) → end + 3 ≤ length file → AtE
 IsSafe false end bytes d' = AtEachMoment d' (IsBeforeOrWhole bytes)
 
 -- THE FILE OF THIS NAME GOT READY with these bytes: it was sealed and goes on, or was made anew
-pub record IsReady (name line : List ℕ) (d d' : List Call) (bytes : List ℕ) : Type 0 where
+pub record IsReady (tags : Bool) (name line : List ℕ) (d d' : List Call) (bytes : List ℕ) : Type 0 where
   pub found : Option (List ℕ)
-  pub begun : IsBegunFrom found line (records_of bytes)
+  pub begun : IsBegunFrom tags found line (records_of bytes)
   pub cut : List ℕ
   pub cut_off : IsCutFrom found cut
   pub reopens : Bool
@@ -185,18 +185,18 @@ abbrev pub IsUnread : List Call → Unready → Type 0
 IsUnread d' fault = IsOpening d' × ((why : FileFault) × (fault ≡ unready_by_file why))
 
 -- it was read, and the log is not restored: no further call was made
-pub record IsUnrestored (name line : List ℕ) (d d' : List Call) (fault : Unready) : Type 0 where
+pub record IsUnrestored (tags : Bool) (name line : List ℕ) (d d' : List Call) (fault : Unready) : Type 0 where
   pub found : Option (List ℕ)
   pub calls : d' ≡ read_calls name found d
   pub why : OpeningFault
-  pub is : IsFaultFrom found line why
+  pub is : IsFaultFrom tags found line why
   pub named : fault ≡ unready_by_log why
 
 -- it did not get ready, and a crash leaves no more than if it had
-pub record IsUnmade (line : List ℕ) (d' : List Call) (fault : Unready) : Type 0 where
+pub record IsUnmade (tags : Bool) (line : List ℕ) (d' : List Call) (fault : Unready) : Type 0 where
   pub found : Option (List ℕ)
   pub bytes : List ℕ
-  pub begun : IsBegunFrom found line (records_of bytes)
+  pub begun : IsBegunFrom tags found line (records_of bytes)
   pub reopens : Bool
   pub end : ℕ
   pub sealed : reopens ≡ true → IsReopenedFrom found bytes end
@@ -205,8 +205,8 @@ pub record IsUnmade (line : List ℕ) (d' : List Call) (fault : Unready) : Type 
   pub named : fault ≡ unready_by_file why
 
 -- the reason why there is no log over which lines are answered
-abbrev pub IsUnready : List ℕ → List ℕ → List Call → List Call → Unready → Type 0
-IsUnready name line d d' fault = IsUnread d' fault ⊎ IsUnrestored name line d d' fault ⊎ IsUnmade line d' fault
+abbrev pub IsUnready : Bool → List ℕ → List ℕ → List Call → List Call → Unready → Type 0
+IsUnready tags name line d d' fault = IsUnread d' fault ⊎ IsUnrestored tags name line d d' fault ⊎ IsUnmade tags line d' fault
 
 -- the output about that reason
 abbrev pub TellsUnready : Unready → Held → Held → OverLogFault → Type 0
@@ -244,17 +244,17 @@ state_in past = record { file = seen_of past; heard = heard_of past; file_faults
 -- and those of the first of the lines, and the writer has taken a beginning of the replies to those. At no moment was the
 -- file sealed, unless all of its bytes were on the disk before. The calls of the disk are those of this file, and the
 -- writer took just what its listener heard
-pub record AnswersOver (bytes : List ℕ) (x : Reading) (made d' : List Call) (w' : Held) (result : Result Unit OverLogFault) : Type 0 where
+pub record AnswersOver (tags : Bool) (bytes : List ℕ) (x : Reading) (made d' : List Call) (w' : Held) (result : Result Unit OverLogFault) : Type 0 where
   pub before : Past
   pub after : Past
   pub made_with : seen_of before ≡ bytes
   pub nothing_heard : heard_of before ≡ []
-  pub any_moment : LeavesOnly moment_of left_since before after (Covered is_kept reply_at (records_of bytes) (lines_in x) [])
+  pub any_moment : LeavesOnly moment_of left_since before after (Covered (is_kept tags) (reply_at tags) (records_of bytes) (lines_in x) [])
   pub last : Past
   pub unsealed : LeavesOnly moment_of left_since before last Unsealed
   pub outcome : Result Unit RunFault
   pub sealing : Ends past_meaning outcome last after
-  pub ended : IsAnsweredOver (state_in before) x (state_in after) outcome
+  pub ended : IsAnsweredOver tags (state_in before) x (state_in after) outcome
   pub status : result ≡ outcome_over outcome
   pub calls : d' ≡ file_calls after.calls ++ made
   pub took : w'.bytes ≡ heard_of after
@@ -267,15 +267,15 @@ HasNoCatalogue x x' result = (p : Unread) × (fault : EngineFault) × (end : Ove
     × FailsFirst x.told x'.told nothing_read p fault × (result ≡ Err end) × TellsFirst fault x.held x'.held end × (x'.disk ≡ x.disk)
 
 -- there is no log over which lines are answered
-abbrev pub HasNoLog : List ℕ → Devices → Devices → Result Unit OverLogFault → Type 0
-HasNoLog name x x' result = (p : Unread) × (line : List ℕ) × (catalogue : List JobTree) × (fault : Unready) × (end : OverLogFault)
-    × HasFirst x.told x'.told nothing_read p line catalogue × IsUnready name line x.disk x'.disk fault × (result ≡ Err end) × TellsUnready fault x.held x'.held end
+abbrev pub HasNoLog : Bool → List ℕ → Devices → Devices → Result Unit OverLogFault → Type 0
+HasNoLog tags name x x' result = (p : Unread) × (line : List ℕ) × (catalogue : List JobTree) × (fault : Unready) × (end : OverLogFault)
+    × HasFirst x.told x'.told nothing_read p line catalogue × IsUnready tags name line x.disk x'.disk fault × (result ≡ Err end) × TellsUnready fault x.held x'.held end
 
 -- the lines are answered over a file that got ready
-abbrev pub AnswersLines : List ℕ → Devices → Devices → Result Unit OverLogFault → Type 0
-AnswersLines name x x' result = (m : Told) × (p p' : Unread) × (line : List ℕ) × (catalogue : List JobTree) × (bytes : List ℕ) × (made : List Call)
-    × HasFirst x.told m nothing_read p line catalogue × IsReady name line x.disk made bytes × AnswersOver bytes (reading m x'.told p p') made x'.disk x'.held result
+abbrev pub AnswersLines : Bool → List ℕ → Devices → Devices → Result Unit OverLogFault → Type 0
+AnswersLines tags name x x' result = (m : Told) × (p p' : Unread) × (line : List ℕ) × (catalogue : List JobTree) × (bytes : List ℕ) × (made : List Call)
+    × HasFirst x.told m nothing_read p line catalogue × IsReady tags name line x.disk made bytes × AnswersOver tags bytes (reading m x'.told p p') made x'.disk x'.held result
 
--- memory is refused before anything is read, or one of these
-abbrev pub IsLogServed : List ℕ → Devices → Devices → Result Unit OverLogFault → Type 0
-IsLogServed name x x' result = ((result ≡ Err OutOfMemory) × (x' ≡ x)) ⊎ HasNoCatalogue x x' result ⊎ HasNoLog name x x' result ⊎ AnswersLines name x x' result
+-- memory is refused before anything is read, or one of these. Lines have tags or not
+abbrev pub IsLogServed : Bool → List ℕ → Devices → Devices → Result Unit OverLogFault → Type 0
+IsLogServed tags name x x' result = ((result ≡ Err OutOfMemory) × (x' ≡ x)) ⊎ HasNoCatalogue x x' result ⊎ HasNoLog tags name x x' result ⊎ AnswersLines tags name x x' result

@@ -1,5 +1,5 @@
 -- The replies to start lines.
-use Rattle.std.specs.Prelude.{◌≡◌, ℕ, ◌+◌, ◌<◌, ◌≤◌, ◌==◌, Bool, List, [], ◌∷◌, ◌++◌, length, Result, Ok, Err, if◌then◌else◌}
+use Rattle.std.specs.Prelude.{◌≡◌, ℕ, ◌+◌, ◌==◌, List, [], ◌∷◌, ◌++◌, length, Result, Ok, Err, if◌then◌else◌}
 use mathlib.Core.List.{IsPrefix}
 use Rattle.batch_ids.specs.declared.refusal.Refusal.{Refusal}
 use Rattle.jsl_model.specs.Jobs.{JobTree}
@@ -14,9 +14,7 @@ use Rattle.script_text.specs.declared.command.Command.TheVariants.{BadLine, Text
 use Rattle.script_text.specs.declared.start.StartLine.{StartLine}
 use Rattle.script_text.specs.declared.start.StartFault.{StartFault}
 use Rattle.script_text.specs.declared.start.StartFault.TheVariants as starts
-use Rattle.script_text.specs.Replies.{bad_line_text, reply_text}
 use Rattle.script_engine.specs.Script.{start_at, text_for, history_for}
-use Rattle.batch_ids.specs.declared.refusal.Refusal.TheVariants as refusals
 
 -- Lines
 

@@ -1,5 +1,5 @@
 -- The parts of a run: a reply, a line, all start lines, a job execution, all of them.
-use Rattle.std.specs.Prelude.{◌≡◌, ◌⊎◌, ℕ, ◌+◌, ◌<◌, ◌≤◌, Bool, false, List, [], ◌++◌, length, Some, None, Result, Ok, Err}
+use Rattle.std.specs.Prelude.{◌≡◌, ◌⊎◌, ℕ, ◌+◌, ◌<◌, ◌≤◌, Bool, false, List, [], ◌++◌, length, None, Result, Ok, Err}
 use mathlib.Core.List.{IsPrefix}
 use Rattle.batch_ids.specs.Refusals.{is_out_of_memory}
 use Rattle.batch_ids.specs.declared.refusal.Refusal.{Refusal}

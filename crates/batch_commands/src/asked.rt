@@ -7,6 +7,8 @@ pub enum Arguments<'a> {
     LoggedScript {
         /// The name of the log's file.
         log: &'a str,
+        /// Whether lines may have tags.
+        tags: bool,
     },
     /// Runs a catalogue's jobs.
     Run {

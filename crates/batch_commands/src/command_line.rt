@@ -1,13 +1,15 @@
 ghost use Rattle.std.specs.Prelude.{◌≡◌, ◌≤◌, ◌↔◌, ◌∷◌, ◌++◌, List, ℕ, [], false, IsTrue, IfOk, IfSome, IfErr, IsErrAnd, codes, map};
 ghost use Rattle.clap.specs.Words.{app_of, new_app, rule_of};
-ghost use Rattle.batch_commands.specs.Asked.{IsAsked, IsLogName, IsNumberText, AskForNone, AsksFor, HasOptions, NamesLog};
-ghost use Rattle.batch_commands.specs.Commands.{IsShown, bare_app, batchctl_app, log_rule, run_app, script_app, scripts_app, workers_rule};
+ghost use Rattle.batch_commands.specs.Asked.{IsAsked, IsLogName, IsNumberText, AskForNone, AsksFor, HasOptions, HasTags, NamesLog};
+ghost use Rattle.batch_commands.specs.Commands.{IsShown, bare_app, batchctl_app, log_rule, run_app, script_app, scripts_app, tags_rule, workers_rule};
 
 use crate::asked::Arguments;
-use crate::help::{ABOUT, LOG_HELP, RUN_ABOUT, RUN_HELP, SCRIPT_ABOUT, SCRIPT_HELP, WORKERS_HELP};
+use crate::help::{
+    ABOUT, LOG_HELP, RUN_ABOUT, RUN_HELP, SCRIPT_ABOUT, SCRIPT_HELP, TAGS_HELP, WORKERS_HELP,
+};
 use clap::builder::ValueParser;
 use clap::error::ErrorKind;
-use clap::{Arg, ArgMatches, Command, Error};
+use clap::{Arg, ArgAction, ArgMatches, Command, Error};
 use std::alloc::{AllocError, Global};
 
 /// The maximum number of workers of a run.
@@ -54,6 +56,17 @@ fn log_of<'a>(words: &[&'a str]) -> Option<&'a str>
         [word] => log_named(word.strip_prefix("--log=")?),
         [option, name] if *option == "--log" => log_named(name),
         _ => None,
+    }
+}
+
+/// Returns the words without a `--tags` at their begin or at their end, and whether there was one.
+fn without_tags<'a, 'b>(words: &'b [&'a str]) -> (&'b [&'a str], bool)
+    ensures { HasTags result.1 (map (λ word. word.now) result.0.now) (map (λ word. word.now) words.now) }
+{
+    match words {
+        [option, log @ ..] if *option == "--tags" => (log, true),
+        [log @ .., option] if *option == "--tags" => (log, true),
+        _ => (words, false),
     }
 }
 
@@ -121,8 +134,9 @@ fn asked<'a>(matches: &ArgMatches<'_>, words: &[&'a str]) -> Option<Arguments<'a
         return Some(Arguments::Script);
     }
     if let Some(rest) = behind(words, "script") {
-        let log = log_of(rest)?;
-        return Some(Arguments::LoggedScript { log });
+        let (options, tags) = without_tags(rest);
+        let log = log_of(options)?;
+        return Some(Arguments::LoggedScript { log, tags });
     }
     let rest = behind(words, "run")?;
     let workers = workers_of(matches)?;
@@ -145,6 +159,17 @@ fn log_argument<'a>(alloc: Global) -> Arg<'a>
         .value_parser(ValueParser::string())
 }
 
+/// Returns the argument `--tags` of the command `script`.
+fn tags_argument<'a>(alloc: Global) -> Arg<'a>
+    ensures rule { rule_of result ≡ tags_rule }
+    ensures local { result.global ≡ false }
+{
+    Arg::new(alloc, "tags")
+        .long("tags")
+        .help(TAGS_HELP)
+        .action(ArgAction::SetTrue)
+}
+
 /// Returns the command `script`.
 fn script_command<'a>(alloc: Global) -> Result<Command<'a>, AllocError>
     ensures { IfOk result (λ command. app_of command ≡ script_app) }
@@ -152,7 +177,8 @@ fn script_command<'a>(alloc: Global) -> Result<Command<'a>, AllocError>
     Command::new(alloc, "script")
         .about(SCRIPT_ABOUT)
         .after_help(SCRIPT_HELP)
-        .arg(log_argument(alloc))
+        .arg(log_argument(alloc))?
+        .arg(tags_argument(alloc))
 }
 
 /// Returns the argument `--workers` of the command `run`.
@@ -183,7 +209,8 @@ fn run_command<'a>(alloc: Global) -> Result<Command<'a>, AllocError>
 /// These are accepted, and no others:
 ///
 /// - the one word `script`
-/// - `script` with a log by `--log FILE` or `--log=FILE`, whose name begins with no hyphen
+/// - `script` with a log by `--log FILE` or `--log=FILE`, whose name begins with no hyphen, and if
+///   need be with `--tags` before or behind that
 /// - `run` with 1 to 16 workers, by `--workers N` or `--workers=N`, or with 2 by default
 ///
 /// # Errors

@@ -66,12 +66,19 @@ With `--log FILE` the history outlives the process: the line of each call that i
 disk, in FILE, before its reply is written. A later script over FILE goes on from there. Its first
 line is the same catalogue, or one with more jobs behind it. FILE is made if there is none.
 
+With `--tags`, too, each line behind the catalogue may begin with a tag: up to 512 bytes and a tab.
+FILE keeps the whole line, and no reply depends on its tag. A line that begins with `{` has none. A
+FILE that was made with tags is only read with them.
+
 Exit status: 0 done, 2 the command line was refused, 3 the catalogue was refused (its fault is the
 one line of output), 4 a read or a write failed, 5 out of memory; with a log also 6 its file failed,
 7 the log was refused (its fault is the one line of output)."#;
 
 /// The purpose of `--log`.
 pub const LOG_HELP: &str = "Keeps what is accepted in this file, and goes on from what it has";
+
+/// The purpose of `--tags`.
+pub const TAGS_HELP: &str = "Lines may begin with a tag and a tab; a log keeps the tags";
 
 /// The purpose of `run`.
 pub const RUN_ABOUT: &str =

@@ -126,11 +126,15 @@ impl From<OpeningFault> for Unready {
 }
 
 /// Makes a log that has only this catalogue.
-fn fresh_log(alloc: Global, line: &[u8], catalogue: Catalogue) -> Result<RestoredLog, OpeningFault>
+fn fresh_log<const TAGS: bool>(
+    alloc: Global,
+    line: &[u8],
+    catalogue: Catalogue,
+) -> Result<RestoredLog<TAGS>, OpeningFault>
     requires { catalogue_at line.now ≡ Ok catalogue }
-    ensures begun { IfOk result (λ log. IsBegunFrom None line.now (records_of log.file.bytes.items)) }
+    ensures begun { IfOk result (λ log. IsBegunFrom TAGS None line.now (records_of log.file.bytes.items)) }
     ensures rest { IfOk result (λ log. IsRest log.file.bytes.items log.file.rest) }
-    ensures answers { IfOk result (λ log. Answers log.engine (history_of (records_of log.file.bytes.items))) }
+    ensures answers { IfOk result (λ log. Answers TAGS log.engine (history_of (records_of log.file.bytes.items))) }
     ensures cut { IfOk result (λ log. log.cut.items ≡ []) }
     ensures reopens { IfOk result (λ log. log.reopens ≡ false) }
     ensures fault { IfErr result (λ fault. fault ≡ OutOfMemory) }
@@ -148,19 +152,19 @@ fn fresh_log(alloc: Global, line: &[u8], catalogue: Catalogue) -> Result<Restore
 }
 
 /// Restores the log that was found, or makes one that has only this catalogue.
-fn find_log(
+fn find_log<const TAGS: bool>(
     alloc: Global,
     found: Option<Vec<u8>>,
     line: &[u8],
     catalogue: Catalogue,
-) -> Result<RestoredLog, OpeningFault>
+) -> Result<RestoredLog<TAGS>, OpeningFault>
     requires { catalogue_at line.now ≡ Ok catalogue }
-    ensures begun { IfOk result (λ log. IsBegunFrom (option_map (λ file. file.items) found) line.now (records_of log.file.bytes.items)) }
+    ensures begun { IfOk result (λ log. IsBegunFrom TAGS (option_map (λ file. file.items) found) line.now (records_of log.file.bytes.items)) }
     ensures rest { IfOk result (λ log. IsRest log.file.bytes.items log.file.rest) }
-    ensures answers { IfOk result (λ log. Answers log.engine (history_of (records_of log.file.bytes.items))) }
+    ensures answers { IfOk result (λ log. Answers TAGS log.engine (history_of (records_of log.file.bytes.items))) }
     ensures cut { IfOk result (λ log. IsCutFrom (option_map (λ file. file.items) found) log.cut.items) }
     ensures reopens { IfOk result (λ log. IsTrue log.reopens → IsReopenedFrom (option_map (λ file. file.items) found) log.file.bytes.items log.file.rest.end) }
-    ensures fault { IfErr result (IsFaultFrom (option_map (λ file. file.items) found) line.now) }
+    ensures fault { IfErr result (IsFaultFrom TAGS (option_map (λ file. file.items) found) line.now) }
 {
     match found {
         Some(file) => restore(alloc, file, line, catalogue),
@@ -170,7 +174,11 @@ fn find_log(
 
 /// Makes the file of a log ready: writes a shut gate over the seal of one that goes on, or else makes it
 /// anew.
-fn write_ready<D: Disk>(disk: &mut D, name: &str, log: &RestoredLog) -> Result<(), FileFault>
+fn write_ready<D: Disk, const TAGS: bool>(
+    disk: &mut D,
+    name: &str,
+    log: &RestoredLog<TAGS>,
+) -> Result<(), FileFault>
     requires opening { IsOpening (D.past disk.old) }
     ensures ready { OnOk result (D.past disk.new ≡ getting_ready log.now.reopens name.now log.now.file.rest.end log.now.cut.items log.now.file.bytes.items (D.past disk.old)) }
     ensures any_moment { IsSafe log.now.reopens log.now.file.rest.end log.now.file.bytes.items (D.past disk.new) }
@@ -183,19 +191,20 @@ fn write_ready<D: Disk>(disk: &mut D, name: &str, log: &RestoredLog) -> Result<(
 }
 
 /// Reads the log of this name, restores it, and makes its file ready.
-fn make_ready<D: Disk>(
+fn make_ready<D: Disk, const TAGS: bool>(
     alloc: Global,
     disk: &mut D,
     name: &str,
     line: &[u8],
     catalogue: Catalogue,
-) -> Result<RestoredLog, Unready>
+) -> Result<RestoredLog<TAGS>, Unready>
     requires opening { IsOpening (D.past disk.old) }
     requires catalogue { catalogue_at line.now ≡ Ok catalogue }
-    ensures ready { IfOk result (λ log. IsReady name.now line.now (D.past disk.old) (D.past disk.new) log.file.bytes.items) }
+    ensures ready { IfOk result (λ log. IsReady TAGS name.now line.now (D.past disk.old) (D.past disk.new) log.file.bytes.items) }
+    ensures file { IfOk result (λ log. (name : List ℕ) × IsFileReady (D.past disk.new) name log.file.bytes.items) }
     ensures rest { IfOk result (λ log. IsRest log.file.bytes.items log.file.rest) }
-    ensures answers { IfOk result (λ log. Answers log.engine (history_of (records_of log.file.bytes.items))) }
-    ensures unready { IfErr result (IsUnready name.now line.now (D.past disk.old) (D.past disk.new)) }
+    ensures answers { IfOk result (λ log. Answers TAGS log.engine (history_of (records_of log.file.bytes.items))) }
+    ensures unready { IfErr result (IsUnready TAGS name.now line.now (D.past disk.old) (D.past disk.new)) }
 {
     let found = match read_file(disk, alloc, name) {
         Ok(found) => found,
@@ -235,19 +244,19 @@ fn outcome_of(outcome: Result<(), RunFault>) -> Result<(), OverLogFault>
 }
 
 /// Replies to the lines after the first, over a log whose file is ready.
-fn answer_in<D: Disk + Drop, S: Source, W: Sink + Drop>(
+fn answer_in<D: Disk + Drop, S: Source, W: Sink + Drop, const TAGS: bool>(
     alloc: Global,
     input: &mut InputBuffer,
     source: &mut S,
     disk: D,
     sink: W,
-    log: RestoredLog,
+    log: RestoredLog<TAGS>,
 ) -> (Result<(), OverLogFault>, D, W)
     requires ready { (name : List ℕ) × IsFileReady (D.past disk) name log.file.bytes.items }
     requires fresh { (W.tape sink).bytes ≡ [] }
     requires rest { IsRest log.file.bytes.items log.file.rest }
-    requires answers { Answers log.engine (history_of (records_of log.file.bytes.items)) }
-    ensures { AnswersOver log.file.bytes.items (reading (S.tape source.old) (S.tape source.new) input.old input.new)
+    requires answers { Answers TAGS log.engine (history_of (records_of log.file.bytes.items)) }
+    ensures { AnswersOver TAGS log.entry.file.bytes.items (reading (S.tape source.old) (S.tape source.new) input.old input.new)
         (D.past disk) (D.past result.1) (W.tape result.2) result.0 }
 {
     let RestoredLog {
@@ -266,7 +275,7 @@ fn answer_in<D: Disk + Drop, S: Source, W: Sink + Drop>(
 }
 
 /// Says on standard error where the bytes are that a crash left behind the log's end.
-fn tell_cut<F: Write>(faults: &mut F, name: &str, log: &RestoredLog) {
+fn tell_cut<F: Write, const TAGS: bool>(faults: &mut F, name: &str, log: &RestoredLog<TAGS>) {
     if !log.cut.is_empty() {
         let _ = writeln!(
             faults,
@@ -275,8 +284,8 @@ fn tell_cut<F: Write>(faults: &mut F, name: &str, log: &RestoredLog) {
     }
 }
 
-/// Runs a script over a log.
-fn answer_over<D: Disk + Drop, S: Source, W: Sink + Drop, F: Write>(
+/// Runs a script over a log. With `TAGS`, its lines may have tags.
+fn answer_over<D: Disk + Drop, S: Source, W: Sink + Drop, F: Write, const TAGS: bool>(
     alloc: Global,
     disk: D,
     name: &str,
@@ -286,7 +295,7 @@ fn answer_over<D: Disk + Drop, S: Source, W: Sink + Drop, F: Write>(
 ) -> (Result<(), OverLogFault>, D, W)
     requires opening { IsOpening (D.past disk) }
     requires fresh { (W.tape sink).bytes ≡ [] }
-    ensures { IsLogServed name.now (devices (S.tape source.old) (W.tape sink) (D.past disk))
+    ensures { IsLogServed TAGS name.now (devices (S.tape source.old) (W.tape sink) (D.past disk))
         (devices (S.tape source.new) (W.tape result.2) (D.past result.1)) result.0 }
 {
     let mut disk = disk;
@@ -302,7 +311,7 @@ fn answer_over<D: Disk + Drop, S: Source, W: Sink + Drop, F: Write>(
             return (end, disk, sink);
         }
     };
-    match make_ready(alloc, &mut disk, name, &line, catalogue) {
+    match make_ready::<D, TAGS>(alloc, &mut disk, name, &line, catalogue) {
         Ok(log) => {
             tell_cut(faults, name, &log);
             answer_in(alloc, &mut input, source, disk, sink, log)
@@ -314,21 +323,44 @@ fn answer_over<D: Disk + Drop, S: Source, W: Sink + Drop, F: Write>(
     }
 }
 
+/// Runs a script over a log. Its lines may have tags if that is asked for.
+fn answer_logged<D: Disk + Drop, S: Source, W: Sink + Drop, F: Write>(
+    alloc: Global,
+    disk: D,
+    name: &str,
+    tags: bool,
+    source: &mut S,
+    sink: W,
+    faults: &mut F,
+) -> (Result<(), OverLogFault>, D, W)
+    requires opening { IsOpening (D.past disk) }
+    requires fresh { (W.tape sink).bytes ≡ [] }
+    ensures { IsLogServed tags name.now (devices (S.tape source.old) (W.tape sink) (D.past disk))
+        (devices (S.tape source.new) (W.tape result.2) (D.past result.1)) result.0 }
+{
+    if tags {
+        answer_over::<D, S, W, F, true>(alloc, disk, name, source, sink, faults)
+    } else {
+        answer_over::<D, S, W, F, false>(alloc, disk, name, source, sink, faults)
+    }
+}
+
 /// Runs a script over a log, and returns the exit status, the disk and the sink.
 pub(crate) fn serve_logged<D: Disk + Drop, S: Source, W: Sink + Drop, F: Write>(
     alloc: Global,
     disk: D,
     name: &str,
+    tags: bool,
     source: &mut S,
     sink: W,
     faults: &mut F,
 ) -> (u8, D, W)
     requires opening { IsOpening (D.past disk) }
     requires fresh { (W.tape sink).bytes ≡ [] }
-    ensures { (outcome : _) × IsLogServed name.now (devices (S.tape source.old) (W.tape sink) (D.past disk))
+    ensures { (outcome : _) × IsLogServed tags name.now (devices (S.tape source.old) (W.tape sink) (D.past disk))
         (devices (S.tape source.new) (W.tape result.2) (D.past result.1)) outcome × (result.0 ≡ over_log_exit outcome) }
 {
-    let (outcome, disk, sink) = answer_over(alloc, disk, name, source, sink, faults);
+    let (outcome, disk, sink) = answer_logged(alloc, disk, name, tags, source, sink, faults);
     let status = match outcome {
         Ok(()) => DONE,
         Err(fault) => fault.end(faults),

@@ -32,8 +32,9 @@ pub type Operator<N> = OperatorOver<N, Repository<1_000_000>>;
 /// A session at an operator, as the port of a worker ([`job_threads::SessionPort`]).
 pub type SessionPort<'a, R, N> = SessionPortOver<'a, R, N, Repository<1_000_000>>;
 
-/// The engine of a script over a log ([`logged_script::ScriptEngine`]).
-pub type ScriptEngine = ScriptEngineOver<Repository<1_000_000>>;
+/// The engine of a script over a log, whose lines have tags or not
+/// ([`logged_script::ScriptEngine`]).
+pub type ScriptEngine<const TAGS: bool> = ScriptEngineOver<Repository<1_000_000>, TAGS>;
 
 /// A log that was restored, with its engine ([`logged_script::RestoredLog`]).
-pub type RestoredLog = RestoredLogOver<Repository<1_000_000>>;
+pub type RestoredLog<const TAGS: bool> = RestoredLogOver<Repository<1_000_000>, TAGS>;

@@ -1,2 +1,3 @@
 mod Makings
+pub mod Opening
 pub mod Resuming

@@ -17,6 +17,7 @@ use Rattle.script_log.specs.declared.replays.ReplayFault.{ReplayFault}
 use Rattle.script_log.specs.declared.replays.ReplayFault.TheVariants as replays
 use Rattle.script_log.proofs.Lines.{history-catalogue}
 use Rattle.logged_script.specs.Histories.{Answers, is_kept, reply_at, jobs_read}
+use Rattle.logged_script.specs.Tags.{commands_in}
 use Rattle.logged_script.specs.Faults.{IsGrowthFault, IsOpeningFault, GoesOnFrom}
 use Rattle.logged_script.specs.Openings.{records_begun, fault_of_read, fault_of_replay, IsCutOff}
 use Rattle.logged_script.specs.declared.engine.ScriptEngine.{ScriptEngine}
@@ -25,41 +26,41 @@ use Rattle.logged_script.specs.declared.opening.OpeningFault.{OpeningFault}
 use Rattle.logged_script.specs.declared.opening.OpeningFault.TheVariants.{Refused, OutOfMemory}
 
 -- an engine that stands for the lines over the given catalogue stands for those of the records, whose catalogue has the same jobs
-stands-same : {J : Type 0} (limit : ℕ) (stands : J → History → Type 0) (engine : ScriptEngine J) (records : List LogRecord) (line : List ℕ) → GoesOnFrom records line false
-    → Answers limit stands engine (replayed line records) → Answers limit stands engine (history_of records)
-stands-same limit stands engine records line G answers =
+stands-same : {J : Type 0} {n : ℕ} (tags : Bool) (limit : ℕ) (stands : J → History → Type 0) (engine : ScriptEngine J n) (records : List LogRecord) (line : List ℕ) → GoesOnFrom records line false
+    → Answers tags limit stands engine (replayed line records) → Answers tags limit stands engine (history_of records)
+stands-same tags limit stands engine records line G answers =
     let jobs : jobs_read (catalogue_at line) ≡ jobs_read (catalogue_at (last_catalogue [] records)) = ap jobs_read G.is_given ∙ G.has_grown ∙ sym (ap jobs_read G.has.read) in
-    subst (λ (jobs : List JobTree). Stands limit (stands (box_value engine.repository)) (history_past (begin jobs) (kept_lines records))) jobs answers
+    subst (λ (jobs : List JobTree). Stands limit (stands (box_value engine.repository)) (history_past (begin jobs) (commands_in tags (kept_lines records)))) jobs answers
 
 -- an engine that was brought to the lines of the records answers over the records with which the run begins
-pub answers-begun : {J : Type 0} (limit : ℕ) (stands : J → History → Type 0) (engine : ScriptEngine J) (records now : List LogRecord) (line : List ℕ) (grown : Bool) → GoesOnFrom records line grown
-    → now ≡ records_begun records line grown → Answers limit stands engine (replayed line records) → Answers limit stands engine (history_of now)
-answers-begun limit stands engine records now line true G is answers = subst (λ (h : LogHistory). Answers limit stands engine h) (sym (ap history_of is ∙ history-catalogue records line)) answers
-answers-begun limit stands engine records now line false G is answers = subst (λ (rs : List LogRecord). Answers limit stands engine (history_of rs)) (sym is) (stands-same limit stands engine records line G answers)
+pub answers-begun : {J : Type 0} {n : ℕ} (tags : Bool) (limit : ℕ) (stands : J → History → Type 0) (engine : ScriptEngine J n) (records now : List LogRecord) (line : List ℕ) (grown : Bool) → GoesOnFrom records line grown
+    → now ≡ records_begun records line grown → Answers tags limit stands engine (replayed line records) → Answers tags limit stands engine (history_of now)
+answers-begun tags limit stands engine records now line true G is answers = subst (λ (h : LogHistory). Answers tags limit stands engine h) (sym (ap history_of is ∙ history-catalogue records line)) answers
+answers-begun tags limit stands engine records now line false G is answers = subst (λ (rs : List LogRecord). Answers tags limit stands engine (history_of rs)) (sym is) (stands-same tags limit stands engine records line G answers)
 
 -- the file is no log
-pub not-read : (file line : List ℕ) (fault : ReadFault) → HasFault file fault → IsOpeningFault file line (fault_of_read fault)
-not-read file line reads.Foreign is = inl is
-not-read file line reads.Later is = is
-not-read file line (reads.Damaged number byte) is = is
-not-read file line reads.OutOfMemory is = tt
+pub not-read : (tags : Bool) (file line : List ℕ) (fault : ReadFault) → HasFault file fault → IsOpeningFault tags file line (fault_of_read fault)
+not-read tags file line reads.Foreign is = inl is
+not-read tags file line reads.Later is = is
+not-read tags file line (reads.Damaged number byte) is = is
+not-read tags file line reads.OutOfMemory is = tt
 
 -- its catalogue is another one
-pub not-grown : (file line : List ℕ) (given : List JobTree) (fault : OpeningFault) → StandsFor (records_of file) file → catalogue_at line ≡ Ok given
-    → IsGrowthFault (records_of file) given fault → IsOpeningFault file line fault
-not-grown file line given (Refused InUse) whole catalogue why = absurd why
-not-grown file line given (Refused Foreign) whole catalogue why = inr (whole, why)
-not-grown file line given (Refused Later) whole catalogue why = absurd why
-not-grown file line given (Refused (Damaged number byte)) whole catalogue why = absurd why
-not-grown file line given (Refused (OtherCatalogue job)) whole catalogue why = record { whole = whole; given = given; is_given = catalogue; other = why }
-not-grown file line given (Refused (OtherReply number)) whole catalogue why = absurd why
-not-grown file line given OutOfMemory whole catalogue why = tt
+pub not-grown : (tags : Bool) (file line : List ℕ) (given : List JobTree) (fault : OpeningFault) → StandsFor (records_of file) file → catalogue_at line ≡ Ok given
+    → IsGrowthFault (records_of file) given fault → IsOpeningFault tags file line fault
+not-grown tags file line given (Refused InUse) whole catalogue why = absurd why
+not-grown tags file line given (Refused Foreign) whole catalogue why = inr (whole, why)
+not-grown tags file line given (Refused Later) whole catalogue why = absurd why
+not-grown tags file line given (Refused (Damaged number byte)) whole catalogue why = absurd why
+not-grown tags file line given (Refused (OtherCatalogue job)) whole catalogue why = record { whole = whole; given = given; is_given = catalogue; other = why }
+not-grown tags file line given (Refused (OtherReply number)) whole catalogue why = absurd why
+not-grown tags file line given OutOfMemory whole catalogue why = tt
 
 -- its lines are not kept again
-pub not-replayed : (file line : List ℕ) (grown : Bool) (fault : ReplayFault) → StandsFor (records_of file) file → GoesOnFrom (records_of file) line grown
-    → IsReplayFault is_kept reply_at line (records_of file) fault → IsOpeningFault file line (fault_of_replay fault)
-not-replayed file line grown (replays.OtherReply number) whole goes_on why = record { whole = whole; grown = grown; goes_on = goes_on; other = why }
-not-replayed file line grown replays.OutOfMemory whole goes_on why = tt
+pub not-replayed : (tags : Bool) (file line : List ℕ) (grown : Bool) (fault : ReplayFault) → StandsFor (records_of file) file → GoesOnFrom (records_of file) line grown
+    → IsReplayFault (is_kept tags) (reply_at tags) line (records_of file) fault → IsOpeningFault tags file line (fault_of_replay fault)
+not-replayed tags file line grown (replays.OtherReply number) whole goes_on why = record { whole = whole; grown = grown; goes_on = goes_on; other = why }
+not-replayed tags file line grown replays.OutOfMemory whole goes_on why = tt
 
 -- the bytes that are cut off
 pub cut-by : (file cut : List ℕ) (at : ℕ) (clean sealed : Bool) → EndsAt file at → (IsTrue clean → IsAtRest file at) → (IsTrue sealed → IsSealed file at) → cut ≡ (if clean || sealed then [] else drop at file) → IsCutOff file cut

@@ -1,11 +1,11 @@
 -- A run whose log is sealed at its end.
-use Rattle.std.proofs.Common.{◌≡◌, ◌⊎◌, inl, inr, ⊎_elim, ℕ, ◌≤◌, List, ◌++◌, Bool, true, false, Result, Ok, Err, sym, ◌∙◌, subst}
+use Rattle.std.proofs.Common.{◌≡◌, inl, inr, ℕ, List, Bool, true, false, Result, Ok, Err, sym, ◌∙◌, subst}
 use Rattle.std.proofs.lemmas.Bool.{false≢true}
 use Rattle.std.specs.Prelude.{IfErr}
-use Rattle.log_host.specs.Host.{Outcomes, Each, LeavesOnly}
+use Rattle.log_host.specs.Host.{Outcomes, LeavesOnly}
 use Rattle.durable_log.specs.Format.{LogRecord}
 use Rattle.durable_log.specs.Files.{StandsFor}
-use Rattle.durable_log.specs.Logs.{records_of, ButForGate, IsSettled, Same, waiting_in}
+use Rattle.durable_log.specs.Logs.{records_of, Same}
 use Rattle.durable_log.specs.declared.log.Log.{Log}
 use Rattle.durable_log.proofs.Fronts.{records-stand}
 use Rattle.durable_log.proofs.Moments.{then_leaves, weaker}
@@ -14,7 +14,7 @@ use Rattle.script_log.specs.Hosts.{Hosting, State, state_of, Account, account, a
 use Rattle.script_log.specs.Reading.{Reading}
 use Rattle.script_log.specs.Covered.{Covered, Hears}
 use Rattle.script_log.specs.Outcomes.{HasAnswered, HasRun}
-use Rattle.script_log.specs.Faults.{has_broken, is_broken, HasCause, UnlessBroken}
+use Rattle.script_log.specs.Faults.{has_broken, is_broken, HasCause}
 use Rattle.script_log.specs.declared.fault.RunFault.{RunFault}
 use Rattle.script_log.specs.declared.fault.RunFault.TheVariants as faults
 use Rattle.logged_script.specs.Logged.{Ends, IsSealedAfter}

@@ -73,28 +73,29 @@ pub record HasOtherCatalogue (file line : List ℕ) (job : ℕ) : Type 0 where
 
 -- a whole log whose catalogue goes on with that of the line: the record with this number is the first that is
 -- not kept again with a reply of its check
-pub record HasOtherReply (file line : List ℕ) (number : ℕ) : Type 0 where
+pub record HasOtherReply (tags : Bool) (file line : List ℕ) (number : ℕ) : Type 0 where
   pub whole : StandsFor (records_of file) file
   pub grown : Bool
   pub goes_on : GoesOnFrom (records_of file) line grown
-  pub other : IsOtherReply is_kept reply_at line (records_of file) number
+  pub other : IsOtherReply (is_kept tags) (reply_at tags) line (records_of file) number
 
 -- no script made the file: it is no log, or a whole log whose catalogue can't be read
 abbrev pub IsForeign : List ℕ → Type 0
 IsForeign file = (opening file ≡ ForeignFile) ⊎ (StandsFor (records_of file) file × IsNoScriptLog (records_of file))
 
-module _ (file line : List ℕ) where
-  -- THE FAULT OF A REFUSED LOG, by its file and the line of the given catalogue. A fault is the first of the
-  -- order Foreign, Later, Damaged, Foreign, OtherCatalogue, OtherReply: each says that no earlier one is there
+module _ (tags : Bool) (file line : List ℕ) where
+  -- THE FAULT OF A REFUSED LOG, whose lines have tags or not, by its file and the line of the given catalogue. A
+  -- fault is the first of the order Foreign, Later, Damaged, Foreign, OtherCatalogue, OtherReply: each says that
+  -- no earlier one is there
   abbrev pub HasLogFault : LogFault → Type 0
   HasLogFault InUse = ⊥
   HasLogFault Foreign = IsForeign file
   HasLogFault Later = opening file ≡ LaterFile
   HasLogFault (Damaged number byte) = IsDamagedAt file number byte
   HasLogFault (OtherCatalogue job) = HasOtherCatalogue file line job
-  HasLogFault (OtherReply number) = HasOtherReply file line number
+  HasLogFault (OtherReply number) = HasOtherReply tags file line number
 
 -- the fault of a log that was not restored
-abbrev pub IsOpeningFault : List ℕ → List ℕ → OpeningFault → Type 0
-IsOpeningFault file line (Refused fault) = HasLogFault file line fault
-IsOpeningFault file line OutOfMemory = Unit {0}
+abbrev pub IsOpeningFault : Bool → List ℕ → List ℕ → OpeningFault → Type 0
+IsOpeningFault tags file line (Refused fault) = HasLogFault tags file line fault
+IsOpeningFault tags file line OutOfMemory = Unit {0}

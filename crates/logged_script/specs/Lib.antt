@@ -1,4 +1,5 @@
 pub mod Texts
+pub mod Tags
 pub mod Histories
 pub mod Faults
 pub mod Openings

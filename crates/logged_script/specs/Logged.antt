@@ -1,5 +1,5 @@
 -- The end of a script over a log.
-use Rattle.std.specs.Prelude.{ℕ, ◌≡◌, ◌⊎◌, true, false, Result}
+use Rattle.std.specs.Prelude.{ℕ, ◌≡◌, ◌⊎◌, Bool, true, false, Result}
 use Rattle.log_host.specs.Host.{Each, LeavesOnly, Only}
 use Rattle.durable_log.specs.Logs.{records_of, IsAtRest, IsSealed, ButForGate, Same}
 use Rattle.script_log.specs.Runs.{answering}
@@ -11,8 +11,8 @@ use Rattle.script_log.specs.declared.fault.RunFault.{RunFault}
 use Rattle.logged_script.specs.Histories.{is_kept, reply_at}
 
 -- HOW A SCRIPT OVER A LOG ENDS: as a run of its lines with the replies of a job repository
-abbrev pub IsAnsweredOver : State → Reading → State → Result Unit RunFault → Type 0
-IsAnsweredOver old x new result = HasRun (answering is_kept reply_at) old x new result
+abbrev pub IsAnsweredOver : Bool → State → Reading → State → Result Unit RunFault → Type 0
+IsAnsweredOver tags old x new result = HasRun (answering (is_kept tags) (reply_at tags)) old x new result
 
 -- A FILE IS SEALED after all its bytes are on the disk: the calls behind `last` leave its records and what was heard. A crash
 -- leaves the same records at each moment meanwhile, and afterwards all the bytes, but for any in place of the gate at their end.

@@ -28,11 +28,11 @@ records_begun records line grown = if grown then records ++ catalogue_record lin
 -- A LOG GOES ON: the file stands for its records. Their last catalogue has the first jobs of the given one, and
 -- each kept line is kept again with a reply of its check. The given catalogue becomes one more record exactly
 -- if it has more jobs
-pub record IsBegun (file line : List ℕ) (now : List LogRecord) : Type 0 where
+pub record IsBegun (tags : Bool) (file line : List ℕ) (now : List LogRecord) : Type 0 where
   pub whole : StandsFor (records_of file) file
   pub grown : Bool
   pub goes_on : GoesOnFrom (records_of file) line grown
-  pub alike : AreAlike is_kept reply_at (replayed line []) (records_of file)
+  pub alike : AreAlike (is_kept tags) (reply_at tags) (replayed line []) (records_of file)
   pub records : now ≡ records_begun (records_of file) line grown
 
 -- each legal history over the one catalogue is legal over the other, with equal rows

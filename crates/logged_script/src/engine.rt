@@ -5,6 +5,7 @@ ghost use Rattle.script_engine.specs.Script.{catalogue_at};
 ghost use Rattle.script_log.specs.Replays.{replayed};
 ghost use Rattle.logged_script.specs.Histories.{Answers, is_kept, reply_at};
 
+use crate::tags::command_in;
 use batch_ids::OutOfMemory;
 use job_repository::JobRepository;
 use jsl_model::Catalogue;
@@ -15,22 +16,23 @@ use script_text::CommandReader;
 use std::alloc::{AllocError, Global};
 
 /// A job repository that replies to the lines of a script, one after another. A line is logged if
-/// it is a call that is accepted with another reply than Nothing.
+/// it is a call that is accepted with another reply than Nothing. With `TAGS`, a line may begin with
+/// a tag, which is logged with it, and on which no reply depends ([`command_of`](crate::command_of)).
 #[derive(Drop)]
-pub struct ScriptEngine<J: JobRepository> {
+pub struct ScriptEngine<J: JobRepository, const TAGS: bool> {
     commands: CommandReader,
     repository: Box<J>,
 }
 
-impl<J: JobRepository> ScriptEngine<J> {
+impl<J: JobRepository, const TAGS: bool> ScriptEngine<J, TAGS> {
     /// Makes a repository over this catalogue, without operations.
     ///
     /// # Errors
     ///
     /// Returns `OutOfMemory` if memory is refused. The catalogue is dropped.
-    pub fn new(alloc: Global, catalogue: Catalogue) -> Result<ScriptEngine<J>, OutOfMemory>
+    pub fn new(alloc: Global, catalogue: Catalogue) -> Result<ScriptEngine<J, TAGS>, OutOfMemory>
         requires { J.limit ≡ most_operations }
-        ensures { IfOk result (λ engine. (line : List ℕ) → catalogue_at line ≡ Ok catalogue → Answers J.limit J.stands engine (replayed line [])) }
+        ensures { IfOk result (λ engine. (line : List ℕ) → catalogue_at line ≡ Ok catalogue → Answers TAGS J.limit J.stands engine (replayed line [])) }
     {
         let repository = boxed_repository(alloc, catalogue)?;
         Ok(ScriptEngine {
@@ -40,12 +42,12 @@ impl<J: JobRepository> ScriptEngine<J> {
     }
 }
 
-impl<J: JobRepository> Engine for ScriptEngine<J> {
-    ghost stands = { Answers J.limit J.stands };
+impl<J: JobRepository, const TAGS: bool> Engine for ScriptEngine<J, TAGS> {
+    ghost stands = { Answers TAGS J.limit J.stands };
 
-    ghost keeps = { is_kept };
+    ghost keeps = { is_kept TAGS };
 
-    ghost reply = { reply_at };
+    ghost reply = { reply_at TAGS };
 
     fn answer(&mut self, alloc: Global, line: &[u8]) -> Result<Answered, AllocError> {
         if line.len() > MAX_LINE {
@@ -54,7 +56,8 @@ impl<J: JobRepository> Engine for ScriptEngine<J> {
         }
         let repository: &mut J = &mut self.repository;
         let before = repository.len();
-        let answered = answer_whole(alloc, &mut self.commands, repository, line)?;
+        let command = command_in::<TAGS>(line);
+        let answered = answer_whole(alloc, &mut self.commands, repository, command)?;
         let kept = before < repository.len();
         Ok(Answered {
             text: answered.text,

@@ -7,6 +7,7 @@ mod engine;
 mod fault;
 mod opening;
 mod run;
+mod tags;
 mod text;
 
 pub use catalogue::{catalogue_at, new_log};
@@ -14,4 +15,5 @@ pub use engine::ScriptEngine;
 pub use fault::LogFault;
 pub use opening::{OpeningFault, RestoredLog, restore};
 pub use run::answer_restored;
+pub use tags::{MAX_TAG, command_of};
 pub use text::log_fault_text;

@@ -55,7 +55,7 @@ impl From<AllocError> for OpeningFault {
 
 /// The restored log of a script, and the engine that represents the history of its records.
 #[derive(Drop)]
-pub struct RestoredLog<J: JobRepository> {
+pub struct RestoredLog<J: JobRepository, const TAGS: bool> {
     /// The bytes of the new file, and the place at which its log goes on.
     pub file: LogFile,
     /// The bytes after the records of the old file, if its end was neither clean nor sealed.
@@ -63,15 +63,15 @@ pub struct RestoredLog<J: JobRepository> {
     /// Whether the old file was sealed, and a shut gate over its seal makes it the new one.
     pub reopens: bool,
     /// The engine.
-    pub engine: ScriptEngine<J>,
+    pub engine: ScriptEngine<J, TAGS>,
 }
 
 // A log whose lines were run again.
 #[derive(Drop)]
-struct Replayed<J: JobRepository> {
+struct Replayed<J: JobRepository, const TAGS: bool> {
     end: End,
     grown: bool,
-    engine: ScriptEngine<J>,
+    engine: ScriptEngine<J, TAGS>,
 }
 
 // Returns the fault of a log whose file can't be read as one.
@@ -101,17 +101,17 @@ fn unanswered(fault: ReplayFault) -> OpeningFault
 }
 
 // Runs the lines of records again, over a fresh engine.
-fn replay_records<J: JobRepository>(
+fn replay_records<J: JobRepository, const TAGS: bool>(
     alloc: Global,
     records: &[Record<'_>],
-    mut engine: ScriptEngine<J>,
+    mut engine: ScriptEngine<J, TAGS>,
     line: &[u8],
-) -> Result<ScriptEngine<J>, OpeningFault>
-    requires { Answers J.limit J.stands engine (replayed line.now []) }
-    ensures alike { IfOk result (λ _. AreAlike is_kept reply_at (replayed line.now []) (map record_shown records.now)) }
-    ensures answers { IfOk result (λ ran. Answers J.limit J.stands ran (replayed line.now (map record_shown records.now))) }
+) -> Result<ScriptEngine<J, TAGS>, OpeningFault>
+    requires { Answers TAGS J.limit J.stands engine (replayed line.now []) }
+    ensures alike { IfOk result (λ _. AreAlike (is_kept TAGS) (reply_at TAGS) (replayed line.now []) (map record_shown records.now)) }
+    ensures answers { IfOk result (λ ran. Answers TAGS J.limit J.stands ran (replayed line.now (map record_shown records.now))) }
     ensures fault { IfErr result (λ fault. (why : WhyNot) × (fault ≡ fault_of_replay why)
-        × IsReplayFault is_kept reply_at line.now (map record_shown records.now) why) }
+        × IsReplayFault (is_kept TAGS) (reply_at TAGS) line.now (map record_shown records.now) why) }
 {
     match replay(alloc, &mut engine, line, records) {
         Ok(()) => Ok(engine),
@@ -120,20 +120,20 @@ fn replay_records<J: JobRepository>(
 }
 
 // Reads a log, and runs its lines again.
-fn replay_file<J: JobRepository>(
+fn replay_file<J: JobRepository, const TAGS: bool>(
     alloc: Global,
     file: &[u8],
     line: &[u8],
     catalogue: Catalogue,
-) -> Result<Replayed<J>, OpeningFault>
+) -> Result<Replayed<J, TAGS>, OpeningFault>
     requires limit { J.limit ≡ most_operations }
     requires catalogue { catalogue_at line.now ≡ Ok catalogue }
     ensures whole { IfOk result (λ _. StandsFor (records_of file.now) file.now) }
     ensures end { IfOk result (λ ran. IsEnd file.now ran.end) }
     ensures goes_on { IfOk result (λ ran. GoesOnFrom (records_of file.now) line.now ran.grown) }
-    ensures alike { IfOk result (λ _. AreAlike is_kept reply_at (replayed line.now []) (records_of file.now)) }
-    ensures answers { IfOk result (λ ran. Answers J.limit J.stands ran.engine (replayed line.now (records_of file.now))) }
-    ensures fault { IfErr result (IsOpeningFault file.now line.now) }
+    ensures alike { IfOk result (λ _. AreAlike (is_kept TAGS) (reply_at TAGS) (replayed line.now []) (records_of file.now)) }
+    ensures answers { IfOk result (λ ran. Answers TAGS J.limit J.stands ran.engine (replayed line.now (records_of file.now))) }
+    ensures fault { IfErr result (IsOpeningFault TAGS file.now line.now) }
 {
     let contents = match read_log(alloc, file) {
         Ok(contents) => contents,
@@ -189,22 +189,23 @@ fn new_file(
 /// Restores the log of a script with this catalogue: reads its file, runs each line of the log
 /// again, and returns the bytes of a new file with the same records and a clean end. If the
 /// catalogue has more jobs than the log's, it is one more record. `line` is the line of the
-/// catalogue. There is no host here: a log that is refused is not touched.
+/// catalogue. With `TAGS`, the log's lines may have tags ([`command_of`](crate::command_of)). There is
+/// no host here: a log that is refused is not touched.
 ///
 /// # Errors
 ///
 /// - `Refused`, with the first fault in this order: `Foreign`, `Later`, `Damaged`; `Foreign` if
 ///   record 0 is no catalogue or the last catalogue can't be read; `OtherCatalogue`; `OtherReply`.
 /// - `OutOfMemory` if memory is refused, instead of any result.
-pub fn restore<J: JobRepository>(
+pub fn restore<J: JobRepository, const TAGS: bool>(
     alloc: Global,
     file: Vec<u8>,
     line: &[u8],
     catalogue: Catalogue,
-) -> Result<RestoredLog<J>, OpeningFault>
+) -> Result<RestoredLog<J, TAGS>, OpeningFault>
     requires limit { J.limit ≡ most_operations }
     requires catalogue { catalogue_at line.now ≡ Ok catalogue }
-    ensures begun { IfOk result (λ log. IsBegun file.items line.now (records_of log.file.bytes.items)) }
+    ensures begun { IfOk result (λ log. IsBegun TAGS file.items line.now (records_of log.file.bytes.items)) }
 
     // Each legal history over the log's catalogue is legal over the given one, with equal rows.
     ensures histories { IfOk result (λ _. (kept : List JobTree) → HasCatalogue (records_of file.items) kept → KeepsHistories kept catalogue) }
@@ -212,8 +213,8 @@ pub fn restore<J: JobRepository>(
     ensures rest { IfOk result (λ log. IsRest log.file.bytes.items log.file.rest) }
     ensures cut { IfOk result (λ log. IsCutOff file.items log.cut.items) }
     ensures reopens { IfOk result (λ log. IsTrue log.reopens → Reopens file.items log.file.bytes.items log.file.rest.end) }
-    ensures answers { IfOk result (λ log. Answers J.limit J.stands log.engine (history_of (records_of log.file.bytes.items))) }
-    ensures fault { IfErr result (IsOpeningFault file.items line.now) }
+    ensures answers { IfOk result (λ log. Answers TAGS J.limit J.stands log.engine (history_of (records_of log.file.bytes.items))) }
+    ensures fault { IfErr result (IsOpeningFault TAGS file.items line.now) }
 {
     let ran = match replay_file(alloc, &file, line, catalogue) {
         Ok(ran) => ran,

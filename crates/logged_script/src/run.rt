@@ -35,7 +35,7 @@ fn end_log<H: Host>(outcome: &Result<(), RunFault>, log: Log<H>) -> H
 
 /// Runs a script over a log that was restored ([`restore`](crate::restore)). It replies to the
 /// lines at hand in `input`, then to those of `source`, and sends the replies to the host's
-/// listener.
+/// listener. With `TAGS`, a line may have a tag ([`command_of`](crate::command_of)).
 ///
 /// Each accepted call is a record of the log. It is on the disk before its reply is sent. Replies
 /// are sent before the reader is asked for more. At the end the log is sealed, unless the file or the
@@ -50,29 +50,29 @@ fn end_log<H: Host>(outcome: &Result<(), RunFault>, log: Log<H>) -> H
 ///   disk was sent.
 /// - `OutOfMemory` if memory is refused. The replies to the lines before were sent. At most one line
 ///   was read that has no reply.
-pub fn answer_restored<J: JobRepository, R: Reader<H>, H: Host>(
+pub fn answer_restored<J: JobRepository, R: Reader<H>, H: Host, const TAGS: bool>(
     alloc: Global,
     input: &mut InputBuffer,
     source: &mut R,
     mut log: Log<H>,
-    mut engine: ScriptEngine<J>,
+    mut engine: ScriptEngine<J, TAGS>,
 ) -> (Result<(), RunFault>, H)
     requires settled { IsSettled H.seen H.heard H.may_leave log }
     requires nothing_waits { waiting_in log ≡ [] }
-    requires answers { Answers J.limit J.stands engine (history_of (records_of (H.seen log.host))) }
+    requires answers { Answers TAGS J.limit J.stands engine (history_of (records_of (H.seen log.host))) }
 
     // The reader is called only after the listener has heard the replies to all lines that were
     // delivered whole.
-    requires in_turn { MayReadInTurn (answering is_kept reply_at) (account (records_of (H.seen log.host)) (H.heard log.host)) (R.tape source.old) input.old R.may_read }
+    requires in_turn { MayReadInTurn (answering (is_kept TAGS) (reply_at TAGS)) (account (records_of (H.seen log.host)) (H.heard log.host)) (R.tape source.old) input.old R.may_read }
 
     // A crash at any moment leaves the records from before, and those of a beginning of the lines,
     // each with the check of its reply. The listener has heard a beginning of the replies to those
     // lines.
     ensures any_moment { LeavesOnly H.moment H.left_since log.host result.1
-        (Covered is_kept reply_at (records_of (H.seen log.host)) (lines_since (R.tape source.old) (R.tape source.new) input.old) (H.heard log.host)) }
+        (Covered (is_kept TAGS) (reply_at TAGS) (records_of (H.seen log.host)) (lines_since (R.tape source.old) (R.tape source.new) input.old) (H.heard log.host)) }
 
     ensures outcome { let d = hosting H.seen H.heard H.may_leave H.moment H.left_since H.origin H.file_faults H.listener_faults in
-        IsAnsweredOver (state_of d log.host) (reading (R.tape source.old) (R.tape source.new) input.old input.new) (state_of d result.1) result.0 }
+        IsAnsweredOver TAGS (state_of d log.host) (reading (R.tape source.old) (R.tape source.new) input.old input.new) (state_of d result.1) result.0 }
 
     // The file is sealed at no moment before its end, and then only after all its bytes are on the
     // disk.

@@ -1,4 +1,4 @@
-use Rattle.std.proofs.Common.{◌≡◌, ◌∙◌, ◌∷◌, [], ◌++◌, ◌==◌, map, inr, ℕ, Option, Some, None, IfSome, ◌<◌, ◌≤◌, length, get_or, List, Bor, codes, false, sym, ap₂, subst, arith}
+use Rattle.std.proofs.Common.{◌≡◌, ◌∙◌, ◌∷◌, [], map, inr, ℕ, Option, Some, None, IfSome, ◌<◌, ◌≤◌, length, get_or, List, Bor, codes, sym, ap₂, subst, arith}
 use Rattle.std.proofs.lemmas.Slice.Eq.{bytes_eq-Decides}
 use Rattle.batch_commands.specs.Asked.{IsLogName, NamesLog}
 use Rattle.batch_commands.proofs.command_line.log_of.Goals as goal

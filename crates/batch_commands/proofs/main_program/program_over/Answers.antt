@@ -1,4 +1,4 @@
-use Rattle.std.proofs.Common.{◌≡◌, [], ℕ, List, Bor, map, ap₂, subst}
+use Rattle.std.proofs.Common.{ℕ, List, Bor, map, ap₂, subst}
 use Rattle.script_lines.specs.Tape.{told_by, held_by}
 use Rattle.batch_commands.specs.Devices.{Devices, devices}
 use Rattle.batch_commands.specs.Statuses.{IsServed}

@@ -1,4 +1,4 @@
-use Rattle.std.proofs.Common.{Option, Result, Ok, refl, subst}
+use Rattle.std.proofs.Common.{Option, Ok, refl, subst}
 use Rattle.std.proofs.lemmas.Result.{err_from_is_err_and}
 use Rattle.script_lines.specs.declared.line.Line.{Line}
 use Rattle.script_lines.specs.Lines.{LineRead}

@@ -1,4 +1,4 @@
-use Rattle.std.proofs.Common.{List, map, sym, subst, ◌∙◌, ap}
+use Rattle.std.proofs.Common.{List, map, not, eqb, sym, subst, ◌∙◌, ap}
 use Rattle.durable_log.specs.Files.{StandsFor}
 use Rattle.durable_log.specs.Logs.{records_of}
 use Rattle.durable_log.specs.Format.{LogRecord}
@@ -13,16 +13,18 @@ use Rattle.logged_script.proofs.opening.replay_file.Goals as goal
 
 pub returns-in-Err-has_grown-clause-fault : goal.returns-in-Err-has_grown-clause-fault
 returns-in-Err-has_grown-clause-fault g c =
+    let tags = not (eqb g.row.TAGS 0) in
     let file = c.args.file.now in
     let fault = c.in-Err-has_grown.fault in
     let records = map record_shown c.in-Ok.contents.records.items in
     let at = records-stand records file c.in-Ok.ensures.records in
     let same = ap (map record_shown) c.deref.ensures.value ∙ sym at in
-    not-grown file c.args.line.now c.args.catalogue fault (subst (λ (rs : List LogRecord). StandsFor rs file) (sym at) c.in-Ok.ensures.records) c.requires.catalogue
+    not-grown tags file c.args.line.now c.args.catalogue fault (subst (λ (rs : List LogRecord). StandsFor rs file) (sym at) c.in-Ok.ensures.records) c.requires.catalogue
     (subst (λ (rs : List LogRecord). IsGrowthFault rs c.args.catalogue fault) same c.in-Err-has_grown.ensures.fault)
 
 pub returns-clause-fault : goal.returns-clause-fault
 returns-clause-fault g c =
+    let tags = not (eqb g.row.TAGS 0) in
     let file = c.args.file.now in
     let line = c.args.line.now in
     let records = map record_shown c.in-Ok.contents.records.items in
@@ -39,6 +41,6 @@ returns-clause-fault g c =
       has_grown = grown.2;
     } in
     let why = c.in-Err-replay_records.ensures.fault in
-    subst (λ (fault : OpeningFault). IsOpeningFault file line fault) (sym why.1)
-    (not-replayed file line c.in-Ok-has_grown.grown why.0 (subst (λ (rs : List LogRecord). StandsFor rs file) (sym at) c.in-Ok.ensures.records) goes_on
-    (subst (λ (rs : List LogRecord). IsReplayFault is_kept reply_at line rs why.0) same-2 why.2))
+    subst (λ (fault : OpeningFault). IsOpeningFault tags file line fault) (sym why.1)
+    (not-replayed tags file line c.in-Ok-has_grown.grown why.0 (subst (λ (rs : List LogRecord). StandsFor rs file) (sym at) c.in-Ok.ensures.records) goes_on
+    (subst (λ (rs : List LogRecord). IsReplayFault (is_kept tags) (reply_at tags) line rs why.0) same-2 why.2))
