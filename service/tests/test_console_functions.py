@@ -176,10 +176,19 @@ PAGE = f"""(async () => {{
 }})()"""
 
 
+def cells(nodes: str) -> str:
+    """The texts of the cells of a table, row by row."""
+    return f"all(all({nodes}, 'tbody'), 'tr').map((row) => row.children.map(text))"
+
+
 def rows(section: str) -> str:
     """The texts of the cells of a section's table, row by row."""
-    found = f"all(service.page, 'section').filter((one) => one.attributes['data-key'] === '{section}')"
-    return f"all(all({found}, 'tbody'), 'tr').map((row) => row.children.map(text))"
+    return cells(f"all(service.page, 'section').filter((one) => one.attributes['data-key'] === '{section}')")
+
+
+def links(nodes: str) -> str:
+    """What the links say, and where they lead."""
+    return f"all({nodes}, 'a').map((one) => [text(one), one.attributes.href])"
 
 
 BEGUN = "2026-11-27 06:30:00"
@@ -210,8 +219,134 @@ EXECUTIONS: list[tuple[str, Any]] = [
     ),
 ]
 
+PRINTED = "{work: 7, stepName: 'print', partition: 0, outcome: 'FAILED', exitStatus: 'NO PAPER', logEnd: 'page 3'}"
+SENT = "{work: 9, stepName: 'send', partition: null, outcome: 'LOST', exitStatus: 'FAILED', logEnd: null}"
+BROKEN = f"""{{executionId: 8, instanceId: 3, jobName: 'nightly', batchStatus: 'FAILED', endTime: {LATER},
+  causes: [{PRINTED}, {SENT}], moreCauses: 1200}}"""
+STEP = "{work: null, stepName: 'send', partition: null, outcome: 'FAILED', exitStatus: 'FAILED', logEnd: null}"
+HALTED = f"""{{executionId: 5, instanceId: 2, jobName: 'hourly', batchStatus: 'STOPPED', endTime: {SIX},
+  causes: [], moreCauses: 0}}"""
+LATE = "executionId: 6, work: 31, stepName: 'load', partition: 2, client: 'w1', leaseRemaining: 4.2"
+LOOK = f"""lookSection({{
+  long: [{{jobName: 'nightly', executionId: 4, seconds: 7384, longestBefore: 600}}],
+  late: [{{jobName: 'hourly', {LATE}}}, {{jobName: null, {LATE}}}],
+  waiting: [{{jobName: 'weekly', executionId: 9, lastUpdatedTime: {SIX}}}]}})"""
+
+
+def opened(found: str, words: str = "", may: str = "true", more: str = "false") -> str:
+    """What is shown of these job instances to restart, at an address with these words."""
+    query = f"new URLSearchParams('{words}')"
+    return f"openSection({{jobInstances: {found}, more: {more}}}, {query}, () => {may}, (page) => `#/?page=${{page}}`)"
+
+
+BOTH = f"[{BROKEN}, {HALTED}]"
+WHY = "print, partition 0: NO PAPERpage 3send: LOST, FAILED1,200 more work items."
+UNWORKED = opened(f"[{{...{BROKEN}, causes: [{STEP}, {STEP}]}}]")
+OPEN: list[tuple[str, Any]] = [
+    (
+        f"causesSection('Why it failed', {BROKEN}).children.map(text)",
+        [
+            "Why it failed",
+            "print, partition 0 is FAILED, exit status NO PAPERpage 3",
+            "send is LOST, exit status FAILED",
+            "1,200 more work items.",
+        ],
+    ),
+    # The order is the service's: the newest first.
+    (
+        cells(opened(BOTH)),
+        [
+            ["8", "nightly", "\u2715 FAILED", WHY, "2026-11-27 06:30:01", "Restart"],
+            ["5", "hourly", "\u25a0 STOPPED", "", BEGUN, "Restart"],
+        ],
+    ),
+    # A button restarts the job execution of its row. Who may only read has none.
+    (
+        f"[true, false].map((may) => all({opened(BOTH, may='may')}, 'button').map((one) => one.attributes['data-execution']))",
+        [["8", "5"], []],
+    ),
+    # The logs of a few job instances are open at once. Those of more are closed.
+    (f"[3, 4].map((many) => all({opened(f'Array(many).fill({BROKEN})')}, 'details')[0].attributes.open)", ["", None]),
+    # Causes without a work item stay apart as the page is drawn again.
+    (f"new Set(all({UNWORKED}, 'p').map((one) => one.attributes['data-key'])).size", 3),
+    # What is late may be on a further page, though no job instance is. Each page but the first has one before it.
+    (links(f"all({opened('[]', more='true')}, 'nav')"), [["Older", "#/?page=1"]]),
+    (links(f"all({opened(f'[{HALTED}]', 'page=2')}, 'nav')"), [["Newer", "#/?page=1"]]),
+    (
+        f"[{opened('[]')}, {opened('[]', 'status=FAILED')}, {opened('[]', 'page=1')}].map((one) => text(all(one, 'p')))",
+        ["No job instance is FAILED or STOPPED.", "No job instance is FAILED.", "None on this page."],
+    ),
+    (
+        f"all({LOOK}, 'li').map(text)",
+        [
+            "nightly: job execution 4 has run for 2 h 3 min; the longest before took 10 min 0 s.",
+            "hourly: job execution 6, load, partition 2: no sign of its worker w1, 4.2 s of its lease are left.",
+            "A job: job execution 6, load, partition 2: no sign of its worker w1, 4.2 s of its lease are left.",
+            f"weekly: job execution 9 waits since {BEGUN}: no worker asks for work.",
+        ],
+    ),
+    # A follower doesn't know what is late or waits.
+    ("lookSection({long: [], late: null, waiting: null})", None),
+]
+
 FULL = "{operations: 1500, mostOperations: 2000, warnFrom: 1000, refuseFrom: 1500}"
+# Of the 70 that are FAILED two are open: the others were restarted.
+COUNTS = "{STARTED: 1234, STOPPED: 6, FAILED: 70}"
+ENDED = """[['FAILED', true], ['FAILED', false], ['STOPPED', false], ['ABANDONED', false]].map(
+  ([batchStatus, mostRecent]) => ({executionId: 7, jobName: 'nightly', batchStatus, exitStatus: batchStatus, mostRecent}))"""
+
+
+def jobs_at(words: str) -> str:
+    """The page of the jobs, at an address with these words."""
+    found = "{jobInstances: [], long: [], late: [], waiting: [], counts: {FAILED: 2, STOPPED: 1}}"
+    runs = f"{{jobExecutions: [], statusCounts: {COUNTS}, more: false}}"
+    data = f"{{open: {found}, runs: {runs}, catalogue: {{jobs: []}}, history: {{...{FULL}, role: 'leader', epoch: 1}}}}"
+    return f"jobs.draw({data}, {{query: new URLSearchParams('{words}')}}, () => false)"
+
+
+def executions_at(words: str) -> str:
+    """The page of the job executions, at an address with these words."""
+    data = f"{{jobExecutions: {ENDED}, statusCounts: {COUNTS}, more: false, total: null}}"
+    return f"executions.draw({data}, {{query: new URLSearchParams('{words}')}}, () => false)"
+
+
+def tiles(page: str) -> str:
+    """The counts at the head of a page, each a link."""
+    return f"all(all({page}, 'ul').filter((one) => one.attributes.class === 'tiles'), 'a')"
+
+
 PAGES: list[tuple[str, Any]] = [
+    (
+        links(tiles(jobs_at(""))),
+        [
+            ["2 FAILED, open", "#/?status=FAILED"],
+            ["1 STOPPED, open", "#/?status=STOPPED"],
+            ["0 STARTING", "#/executions?status=STARTING"],
+            ["1,234 STARTED", "#/executions?status=STARTED"],
+            ["0 STOPPING", "#/executions?status=STOPPING"],
+        ],
+    ),
+    # The chosen one leads back to all.
+    (links(f"{tiles(jobs_at('status=STOPPED'))}.filter((one) => one.attributes['aria-current'])"), [["1 STOPPED, open", "#/"]]),
+    # They stay within what is searched.
+    (
+        links(tiles(executions_at("search=paper&status=FAILED"))),
+        [
+            ["1,310 all", "#/executions?search=paper"],
+            ["0 STARTING", "#/executions?search=paper&status=STARTING"],
+            ["1,234 STARTED", "#/executions?search=paper&status=STARTED"],
+            ["0 STOPPING", "#/executions?search=paper&status=STOPPING"],
+            ["6 STOPPED", "#/executions?search=paper&status=STOPPED"],
+            ["70 FAILED", "#/executions?search=paper&status=FAILED"],
+            ["0 COMPLETED", "#/executions?search=paper&status=COMPLETED"],
+            ["0 ABANDONED", "#/executions?search=paper&status=ABANDONED"],
+        ],
+    ),
+    # Only what is FAILED or STOPPED is marked as restarted, unless it is the newest of its job instance.
+    (
+        f"{cells(executions_at(''))}.map((row) => row[2])",
+        ["\u2715 FAILED", "\u2715 FAILED restarted", "\u25a0 STOPPED restarted", "\u2298 ABANDONED"],
+    ),
     (
         f"warningOf({FULL})",
         "The history is almost full: 1,500 of 2,000 operations (75.00 %). Nothing can be started or restarted any more."
@@ -235,6 +370,7 @@ CASES = {
     "bars.js": BARS,
     "picture.js": PICTURES,
     "execution.js": EXECUTIONS,
+    "open.js": OPEN,
     "pages.js": PAGES,
     "many.js": MANY,
 }
@@ -308,7 +444,27 @@ PLANTS = {
         ("logs.js", "const known = texts.get(work);", "const known = [...texts.values()][0];"),
         ("logs.js", "`/batch/work/${log.work}/log`", "`/batch/work/1/log`"),
     ],
+    "open.js": [
+        ("open.js", "partition === null ?", "!partition ?"),
+        ("open.js", "const rows = data.jobInstances;", "const rows = [];"),
+        ("open.js", "columns, shown,", "columns, shown.reverse(),"),
+        ("open.js", "execution: row.executionId", "execution: row.instanceId"),
+        ("open.js", "rows.length <= MOST_WITH_LOG", "rows.length < MOST_WITH_LOG"),
+        ("open.js", "page || data.more ?", "data.more ?"),
+        ("open.js", "page, data.more, to", "page, false, to"),
+        ("open.js", "`step ${number}`", "`step`"),
+        ("open.js", 'one.jobName === null ? "A job" : ', ""),
+        ("open.js", 'query.get("status") || ', ""),
+        ("open.js", "lasting(one.longestBefore)", "lasting(one.seconds)"),
+        ("open.js", "...(late || [])", "...late"),
+    ],
     "pages.js": [
+        ("pages.js", "open[status], status", "statusCounts[status], status"),
+        ("pages.js", 'status === current ? "#/" : ', ""),
+        ("pages.js", "sum + number", "sum + 1"),
+        ("pages.js", "{ ...query, ...(status", "{ ...(status"),
+        ("pages.js", " && !row.mostRecent", ""),
+        ("pages.js", "RESTARTABLE.includes(row.batchStatus) && ", ""),
         ("pages.js", "100 * history.operations", "history.operations"),
         ("pages.js", 'if (history.operations < history.warnFrom) return "";', ""),
     ],

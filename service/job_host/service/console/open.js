@@ -4,7 +4,6 @@
 import {
   badge, button, element, executionLink, jobLink, lasting, pageOf, pager, section, table, told, when,
 } from "./dom.js";
-import { USUAL_SIZE } from "./service.js";
 
 // So many job instances are shown with the ends of their logs; of more, a log is opened by a click.
 const MOST_WITH_LOG = 3;
@@ -22,19 +21,23 @@ function more(count) {
   return count ? element("p", {}, `${count.toLocaleString("en")} more work items.`) : null;
 }
 
+function keyOf({ work }, number) {
+  return `why ${work || `step ${number}`}`;
+}
+
 // The work items by which a job execution is FAILED or STOPPED.
 export function causesSection(title, { causes, moreCauses }) {
   if (!causes.length) return null;
-  const shown = causes.map((cause, number) => element("div", { "data-key": `why ${cause.work || `step ${number}`}` },
+  const shown = causes.map((cause, number) => element("div", { "data-key": keyOf(cause, number) },
     element("p", {}, place(cause), ` is ${cause.outcome}, exit status `, told(cause.exitStatus)), logEnd(cause)));
   return element("section", { class: "reason", "data-key": "reason", "aria-label": title },
     element("h2", {}, title), shown, more(moreCauses));
 }
 
 function causesCell({ causes, moreCauses }, isOpen) {
-  return [causes.map((cause) => {
+  return [causes.map((cause, number) => {
     const summary = [place(cause), ": ", cause.outcome === "LOST" ? "LOST, " : "", told(cause.exitStatus)];
-    const [log, key] = [logEnd(cause), `why ${cause.work}`];
+    const [log, key] = [logEnd(cause), keyOf(cause, number)];
     if (!log) return element("p", { "data-key": key }, summary);
     const label = `${cause.stepName}, work item ${cause.work}`;
     return element("details", { "data-key": key, "aria-label": label, open: isOpen },
@@ -60,15 +63,17 @@ export function openSection(data, query, may, to) {
     ],
   }));
   const page = pageOf(query);
-  const isPaged = page > 0 || rows.length === USUAL_SIZE;
+  const status = query.get("status") || "FAILED or STOPPED";
+  const none = page ? "None on this page." : `No job instance is ${status}.`;
   return section("Open",
-    table("Job instances to restart, the newest first", columns, shown, "No job instance is FAILED or STOPPED."),
-    isPaged ? pager("Pages of the job instances", page, rows.length === USUAL_SIZE, to) : null);
+    table("Job instances to restart, the newest first", columns, shown, none),
+    page || data.more ? pager("Pages of what is open", page, data.more, to) : null);
 }
 
 function line(kind, key, one, ...words) {
   return element("li", { class: kind, "data-key": `${kind} ${key}` },
-    jobLink(one.jobName), ": job execution ", executionLink(one.executionId), ...words);
+    one.jobName === null ? "A job" : jobLink(one.jobName),
+    ": job execution ", executionLink(one.executionId), ...words);
 }
 
 // What isn't to be restarted, and yet has to be looked at.
