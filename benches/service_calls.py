@@ -228,7 +228,7 @@ class Bench:
         data = self.folder / "replayed"
         data.mkdir(mode=0o700)
         self._hand(lines, "--log", str(data / "history.log"))
-        service = self.service("replayed", "--data", str(data), "--restored")
+        service = self.service("replayed", "--data", str(data))
         begun = time.perf_counter()
         service.start()
         try:

@@ -23,7 +23,6 @@ import time
 import uuid
 from collections import Counter
 from collections.abc import Awaitable, Callable, Iterable, Sequence
-from contextlib import closing
 from dataclasses import dataclass
 from itertools import islice
 from pathlib import Path
@@ -45,6 +44,7 @@ from workers import WorkerProcess  # noqa: E402
 from job_host.catalogue.jobs import read_file  # noqa: E402
 from job_host.commands.program import find_batchctl  # noqa: E402
 from job_host.service.history import log_file  # noqa: E402
+from job_host.service.history.tags import read_tag  # noqa: E402
 
 CLIENTS, WORKERS, SLOTS = 8, 4, 2
 TAKEOVER, LEASE = 1.0, 3.0
@@ -155,21 +155,11 @@ class Parts:
     def new_worker(self, place: int) -> WorkerProcess:
         return WorkerProcess(",".join(proxy.url for proxy in self.proxies), self.folder_of(place), SLOTS)
 
-    def take_store_away(self) -> None:
-        """Takes the SQLite file from a service that is dead. What it holds is needed for the comparison."""
-        away = self.folder / f"store-{len(self.stores_lost)}"
-        away.mkdir()
+    def lose_store(self) -> None:
+        """Takes the SQLite file from a service that is dead. Notes how many operations the log has, which nobody has open."""
         for path in (self.folder / "data").glob("beside.sqlite*"):
-            path.rename(away / path.name)
-
-    def note_store_lost(self) -> None:
-        """Notes how many operations there are. No batchctl has the log open."""
-        self.stores_lost.append(len(lines_of_log(self)))
-
-    def stores(self) -> list[Path]:
-        """The SQLite files that were lost, and the one in use."""
-        folders = [self.folder / f"store-{number}" for number in range(len(self.stores_lost))]
-        return [folder / "beside.sqlite" for folder in [*folders, self.folder / "data"]]
+            path.unlink()
+        self.stores_lost.append(len(records_of_log(self)))
 
     async def until_ready(self) -> None:
         try:
@@ -275,12 +265,12 @@ class SoakClient:
     async def _ask_again(self) -> None:
         """Asks once more by a key that was answered: it has to be the first reply.
 
-        After a loss of the SQLite file the keys in it are unknown, so that this may be a new operation.
+        After a loss of the SQLite file the keys of refused calls are unknown, so that this may be a new operation.
         """
         if self._calls:
             method, path, body, key, before, stores_lost = self._chance.choice(self._calls)
             answer = await self._until_answered(method, path, body, key)
-            if len(self._parts.stores_lost) > stores_lost:
+            if before.status >= 400 and len(self._parts.stores_lost) > stores_lost:
                 return
             if (answer.status, answer.told, answer.operations) != (before.status, before.told, before.operations):
                 raise Wrong(f"{self._name}, {key}: first {before}, then {answer}")
@@ -337,22 +327,21 @@ async def operations_of(parts: Parts) -> list[Operation]:
     return operations_of_log(parts)
 
 
-def lines_of_log(parts: Parts) -> list[bytes]:
-    return [record.line for record in log_file.records(parts.folder / "data" / "history.log") if not record.is_catalogue]
+def records_of_log(parts: Parts) -> list[log_file.LogRecord]:
+    records = log_file.records(parts.folder / "data" / "history.log")
+    return [record for record in records if not record.is_catalogue]
 
 
 def operations_of_log(parts: Parts) -> list[Operation]:
-    """The log's lines with the replies of a replay, and the keys of all SQLite files by the lines."""
-    import sqlite3
+    """The log's lines with the replies of a replay, and with their keys."""
     import subprocess
 
-    lines, keys = lines_of_log(parts), dict[bytes, str]()
-    script = b"\n".join([read_file(parts.catalogue), *lines]) + b"\n"
+    records = records_of_log(parts)
+    script = b"\n".join([read_file(parts.catalogue), *(record.line for record in records)]) + b"\n"
     replies = subprocess.run([*parts.batchctl, "script"], input=script, capture_output=True, check=True).stdout.splitlines()
-    for path in parts.stores():
-        with closing(sqlite3.connect(path)) as beside:
-            keys |= dict(beside.execute("select line, key from request"))
-    return [Operation(number, line, reply, keys.get(line)) for number, (line, reply) in enumerate(zip(lines, replies), 1)]
+    tags = [read_tag(record.tag) for record in records]
+    told = enumerate(zip(records, replies, tags, strict=True), 1)
+    return [Operation(number, record.line, reply, tag.key if tag else None) for number, (record, reply, tag) in told]
 
 
 async def until_quiet(parts: Parts) -> None:

@@ -5,7 +5,6 @@ from __future__ import annotations
 import json
 import subprocess
 import sys
-from bisect import bisect_left, bisect_right
 from collections import Counter, defaultdict
 from collections.abc import Iterator, Sequence
 from dataclasses import dataclass, field
@@ -59,7 +58,7 @@ class Read:
 
 @dataclass(frozen=True)
 class Lost:
-    """What faults took away. `stores` are how many operations there were at each loss of the SQLite file with its request keys.
+    """What faults took away. `stores` are how many operations there were at each loss of the SQLite file with its refused keys.
 
     `starts` is how many artifacts may not have been started, because their folder was gone.
     """
@@ -67,13 +66,9 @@ class Lost:
     stores: Sequence[int] = ()
     starts: int = 0
 
-    def stores_at(self, operations: int) -> set[int]:
-        """The stores by which an answer can have come that saw so many operations, by their places."""
-        return {bisect_left(self.stores, operations), bisect_right(self.stores, operations)}
-
-    def store_of(self, number: int) -> int:
-        """The store by which an operation was made."""
-        return bisect_left(self.stores, number)
+    def lies_between(self, seen: int, number: int) -> bool:
+        """Whether a store was lost behind an answer that saw so many operations, and before the one with this number."""
+        return any(seen <= operations < number for operations in self.stores)
 
 
 @dataclass
@@ -147,30 +142,29 @@ def check_moments(operations: Sequence[Operation]) -> None:
             raise Wrong(f"operation {number} has the moment {moment}, and the one before it {before}")
 
 
-def by_key(operations: Sequence[Operation], lost: Lost) -> dict[tuple[str, int], Operation]:
-    """The operation of each key in each store: after the loss of a store its keys are unknown, and may make new operations."""
-    found: dict[tuple[str, int], Operation] = {}
+def by_key(operations: Sequence[Operation]) -> dict[str, Operation]:
+    """The operation of each key."""
+    found: dict[str, Operation] = {}
     for operation in operations:
-        if operation.key is not None:
-            place = operation.key, lost.store_of(operation.number)
-            if place in found:
-                raise Wrong(
-                    f"operations {found[place].number} and {operation.number} were both made by the key {operation.key}"
-                )
-            found[place] = operation
+        if operation.key is None:
+            continue
+        if operation.key in found:
+            numbers = f"{found[operation.key].number} and {operation.number}"
+            raise Wrong(f"operations {numbers} were both made by the key {operation.key}")
+        found[operation.key] = operation
     return found
 
 
 def check_calls(operations: Sequence[Operation], seen: Seen, lost: Lost) -> None:
     """Each acknowledged operation stands in the history once, with its reply; each client's in its order."""
-    found = by_key(operations, lost)
+    found = by_key(operations)
     last: dict[str, int] = defaultdict(int)
     for call in seen.calls:
+        operation = found.get(call.key)
         if call.status >= 400:
-            if all((call.key, store) in found for store in lost.stores_at(call.operations)):
+            if operation is not None and not lost.lies_between(call.operations, operation.number):
                 raise Wrong(f"{call} was refused, and is in the history")
             continue
-        operation = found.get((call.key, lost.store_of(call.operations)))
         if operation is None:
             raise Wrong(f"{call} was acknowledged, and isn't in the history")
         check_call(call, operation)

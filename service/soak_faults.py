@@ -207,22 +207,11 @@ async def lose_folder(parts: Parts, chance: random.Random) -> AsyncIterator[None
 
 @kind("store", modes=("embedded",))
 async def lose_store(parts: Parts, chance: random.Random) -> AsyncIterator[None]:
-    """The SQLite file is lost while the service is dead, which ends without it, and goes on over its log by --restored."""
+    """The SQLite file is lost while the service is dead, which goes on over its log."""
     (service,) = parts.services
     service.kill()
-    parts.take_store_away()
-    said = service.log.count("don't belong together")
+    parts.lose_store()
     service.start()
-    if (
-        await asyncio.to_thread(service.wait, READY_SECONDS * parts.slowness) != 1
-        or service.log.count("don't belong together") == said
-    ):
-        raise Wrong("the service was started without its store, and didn't end with status 1 and the reason")
-    parts.note_store_lost()
-    words = service.words
-    service.words = [*words, "--restored"]
-    service.start()
-    service.words = words
     await parts.until_role(service, "leader")
     yield
 

@@ -1,4 +1,4 @@
-"""Keeping on one machine: operations in the log of batchctl, request keys in an SQLite file beside it."""
+"""Keeping on one machine: operations in the log of batchctl, with their request keys, and an SQLite file beside it."""
 
 from __future__ import annotations
 
@@ -16,6 +16,7 @@ from conftest import NIGHTLY, SHORT
 from instances import Caller, Process, running, until
 
 from job_host.service.history import log_file
+from job_host.service.history.tags import read_tag
 from job_host.service.keepers.embedded import LOG_NAME
 from job_host.service.keepers.embedded_term import EmbeddedTerm
 from job_host.service.keepers.keeper import Fatal
@@ -29,8 +30,10 @@ async def test_an_operation_is_in_the_log_when_it_is_answered(embedded: Make) ->
     async with running(made) as instance:
         assert (await Caller(instance.url).start(key="a", date="today")).told["executionId"] == 1
         assert (await Caller(instance.url).change(9, "stop")).name == "NoSuchJobExecutionException"
-        lines = [record.line for record in log_file.records(made.data / LOG_NAME)]
-    assert [json.loads(line).get("do") for line in lines] == [None, "start"]
+        records = list(log_file.records(made.data / LOG_NAME))
+    assert [json.loads(record.line).get("do") for record in records] == [None, "start"]
+    tag = read_tag(records[1].tag)
+    assert tag is not None and (tag.client, tag.key, tag.is_once) == ("tester", "a", False) and len(tag.fingerprint) == 32
 
 
 async def test_the_history_goes_on_after_a_kill(embedded: Make, tmp_path: Path) -> None:
@@ -56,7 +59,7 @@ async def test_the_history_goes_on_after_a_kill(embedded: Make, tmp_path: Path) 
 
 
 async def test_a_crash_between_log_and_key(embedded: Make) -> None:
-    """The operation is found in the log by its moment, and its reply by a replay."""
+    """The request key is found in the log with its operation, and the reply by a replay."""
     async with running(embedded()) as instance:
         caller, term = Caller(instance.url), instance.service.keeper.term
         assert isinstance(term, EmbeddedTerm)
@@ -66,7 +69,7 @@ async def test_a_crash_between_log_and_key(embedded: Make) -> None:
         def fail(*given: Any) -> None:
             raise sqlite3.OperationalError("the disk is full")
 
-        store.answer = fail
+        store.note = fail
         answers = await asyncio.gather(caller.start(key="second"), caller.change(9, "stop", key="refused"))
         assert {answer.status for answer in answers} == {503}
         await instance.until_role("starting")
@@ -77,8 +80,8 @@ async def test_a_crash_between_log_and_key(embedded: Make) -> None:
         assert (await caller.change(9, "stop", key="refused")).name == "NoSuchJobExecutionException"
 
 
-async def test_a_crash_between_key_and_log(embedded: Make) -> None:
-    """The key is kept, and its line was never entered: asked again, the operation is made."""
+async def test_a_crash_before_the_log(embedded: Make) -> None:
+    """The line never came to batchctl: asked again, the operation is made."""
     async with running(embedded()) as instance:
         caller, term = Caller(instance.url), instance.service.keeper.term
         assert isinstance(term, EmbeddedTerm)
@@ -135,7 +138,7 @@ async def test_two_services_never_have_one_log(embedded: Make, monkeypatch: pyte
 
 
 async def test_calls_under_way_are_answered_when_batchctl_dies(embedded: Make) -> None:
-    """Keys are being put on the disk, others wait for that, and a claim waits for work: none was handed to batchctl."""
+    """Replies wait for a commit, others for the next one, and a claim waits for work."""
     async with running(embedded()) as instance:
         caller, keeper = Caller(instance.url), instance.service.keeper
         term, engine = keeper.term, keeper.engine
@@ -143,14 +146,14 @@ async def test_calls_under_way_are_answered_when_batchctl_dies(embedded: Make) -
         claim = asyncio.create_task(caller.claim(wait=60))
         await instance.until_claims_wait(1)
         store: Any = term._beside._store
-        intend, is_held, is_over = store.intend, threading.Event(), threading.Event()
+        note, is_held, is_over = store.note, threading.Event(), threading.Event()
 
         def held(*words: Any) -> None:
             is_held.set()
             is_over.wait(10.0)
-            intend(*words)
+            note(*words)
 
-        store.intend = held
+        store.note = held
         first = asyncio.create_task(caller.start(key="first"))
         await asyncio.to_thread(is_held.wait, 10.0)
         others = [asyncio.create_task(caller.start(key=f"other-{number}")) for number in range(15)]

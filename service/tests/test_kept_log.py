@@ -19,6 +19,7 @@ from kept import engine_of, executions, make_some, until_epoch
 from job_host.service.history import log_file
 from job_host.service.history.coprocess import CoProcess
 from job_host.service.history.engine import Engine
+from job_host.service.history.tags import TAB
 from job_host.service.keepers.embedded import LOG_NAME
 from job_host.service.keepers.embedded_term import EmbeddedTerm
 from job_host.service.settings import ServeSettings
@@ -77,7 +78,7 @@ async def lose_reply(instance: Instance, path: Path, make: Callable[[Caller], An
 
     def hand(item: Any) -> None:
         queue.append(item)
-        process._write(item.line + b"\n")
+        process._write(item.tag + TAB + item.line + b"\n")
 
     async def is_in_log() -> bool:
         return sum(1 for _ in log_file.records(path)) > count
@@ -122,7 +123,7 @@ async def lose_answer(instance: Instance, make: Callable[[Caller], Any]) -> None
     def fail(*given: Any) -> None:
         raise sqlite3.OperationalError("the disk is full")
 
-    store.answer = fail
+    store.note = fail
     assert (await make(Caller(instance.url, "one"))).status == 503
     await until_epoch(instance, epoch + 1)
 
@@ -143,7 +144,7 @@ async def test_a_key_whose_reply_was_heard_and_not_kept(embedded: Make, entered:
 
 
 async def test_an_open_key_that_the_engine_does_not_know_is_looked_up(embedded: Make, monkeypatch: pytest.MonkeyPatch) -> None:
-    """As if an older SQLite file were back: its key is open, though its operation is in the log for long."""
+    """As if the file of an earlier version were back: its key is open, though its operation is in the log for long."""
     monkeypatch.setattr("job_host.service.keepers.keeper.ASK_SECONDS", 0.05)
     made = embedded()
     async with running(made) as instance:
@@ -159,10 +160,28 @@ async def test_an_open_key_that_the_engine_does_not_know_is_looked_up(embedded: 
         assert (again.told["executionId"], again.operations, engine_of(instance).entered) == (1, 1, 11)
 
 
+async def test_an_older_file_beside_the_log_learns_what_it_lacks(embedded: Make, monkeypatch: pytest.MonkeyPatch) -> None:
+    """It is put back while the service goes on: the engine doesn't have those replies any more."""
+    monkeypatch.setattr("job_host.service.keepers.keeper.ASK_SECONDS", 0.05)
+    made = embedded()
+    async with running(made) as instance:
+        caller = Caller(instance.url, "one")
+        await caller.start("short", key="old")
+        await make_some(instance.url)
+        await until_state(engine_of(instance))
+        with closing(sqlite3.connect(made.data / STORE_NAME)) as store:
+            store.execute("delete from request where key = 'old'")
+            store.execute("delete from noted")
+            store.commit()
+        await kill_batchctl(instance)
+        again = await caller.start("short", key="old")
+        assert (again.told["executionId"], again.operations, engine_of(instance).entered) == (1, 1, 11)
+
+
 @pytest.mark.parametrize("count", [1, 2, 3])
 async def test_a_log_that_was_replaced_is_replayed(embedded: Make, caplog: pytest.LogCaptureFixture, count: int) -> None:
     """It has the same first operation, and in all less than was entered, as much, or more."""
-    made = embedded(restored=True)
+    made = embedded()
     path, other = made.data / LOG_NAME, made.data / "other"
     async with running(made) as instance:
         caller, keeper = Caller(instance.url), cast(Any, instance.service.keeper)
@@ -170,7 +189,7 @@ async def test_a_log_that_was_replaced_is_replayed(embedded: Make, caplog: pytes
         shutil.copy(path, other)
         lines = [made.catalogue.read_bytes().replace(b"\n", b"")]
         lines += [b'{"do":"start","by":2,"at":%d,"job":"wide"}' % (2**50 + number) for number in range(count - 1)]
-        words = [*made.batchctl, "script", "--log", str(other)]
+        words = [*made.batchctl, "script", "--log", str(other), "--tags"]
         subprocess.run(words, input=b"\n".join(lines), check=True, capture_output=True)
         await caller.start("nightly")
         start = keeper._start

@@ -5,7 +5,6 @@ from __future__ import annotations
 import asyncio
 import json
 import random
-import threading
 from collections.abc import Callable
 from typing import Any
 
@@ -117,34 +116,6 @@ async def operations(made: ServeSettings) -> list[dict[str, Any]]:
     rows = await table.fetch("select line from job_host_operation order by number")
     await table.close()
     return [json.loads(row["line"]) for row in rows]
-
-
-async def test_a_call_without_a_key_waits_for_those_that_have_their_moments(embedded: Make) -> None:
-    made = embedded()
-    async with running(made) as instance:
-        caller, other, term = Caller(instance.url), Caller(instance.url, "other"), instance.service.keeper.term
-        assert isinstance(term, EmbeddedTerm)
-        await asyncio.gather(caller.start("short"), other.start("short"))
-        store: Any = term._beside._store
-        intend, is_held, is_over = store.intend, threading.Event(), threading.Event()
-
-        def held(*words: Any) -> None:
-            is_held.set()
-            is_over.wait(10.0)
-            intend(*words)
-
-        store.intend = held
-        keyed = asyncio.create_task(caller.start("short", key="a"))
-        await asyncio.to_thread(is_held.wait, 10.0)
-        others = [asyncio.create_task(other.change(number, "stop")) for number in (1, 2)]
-        await asyncio.sleep(0.3)
-        is_over.set()
-        answers = await asyncio.gather(keyed, *others)
-    assert [answer.status for answer in answers] == [201, 200, 200]
-    lines = await operations(made)
-    assert [line["do"] for line in lines] == ["start", "start", "start", "stop", "stop"]
-    given = [line["at"] for line in lines]
-    assert given == sorted(set(given))
 
 
 async def test_calls_wait_for_the_end_of_a_read_of_several_steps(embedded: Make) -> None:

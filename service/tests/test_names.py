@@ -212,7 +212,6 @@ def test_a_name_that_is_heard_or_holds_work_is_not_forgotten() -> None:
     with sessions.hearing("four"), sessions.hearing("six"):
         sessions.remember("four", 5)
         assert [sessions.number(name) for name in ("four", "three", "five", "six")] == [5, 4, 6, 8]
-        assert [sessions.is_new(name) for name in ("four", "six", "one")] == [False, True, False]
         with sessions.forgetting([Silent("four", 5, False), Silent("six", 3, False)], ()) as dropped:
             assert dropped == {}
         sessions.keep("four", 5)

@@ -6,7 +6,6 @@ import shutil
 import sqlite3
 from collections.abc import Callable
 from contextlib import closing
-from dataclasses import replace
 
 import asyncpg
 import pytest
@@ -97,7 +96,7 @@ async def test_an_older_copy_of_the_log_knows_no_key_of_what_it_lacks(embedded: 
     async with running(made) as instance:
         assert (await Caller(instance.url).start("short", key="b")).operations == 2
     copy.rename(log)
-    async with running(replace(made, restored=True)) as instance:
+    async with running(made) as instance:
         caller = Caller(instance.url)
         assert (await caller.start("nightly", key="c")).operations == 2
         assert ((await caller.start("wide", key="a")).operations, (await caller.start("short", key="b")).operations) == (1, 3)

@@ -92,7 +92,7 @@ async def test_a_crash_between_log_and_key_leaves_one_start(embedded: Make) -> N
         def fail(*given: Any) -> None:
             raise sqlite3.OperationalError("the disk is full")
 
-        store.answer = fail
+        store.note = fail
         assert (await caller.start_once("a")).status == 503
         await instance.until_role("starting")
         await instance.until_role("leader")

@@ -11,7 +11,7 @@ from pathlib import Path
 import black_hole
 import pytest
 from soak import Parts, Plan, compare, operations_of, soak
-from soak_check import Lost, Operation, Seen, Wrong, check, replay
+from soak_check import Lost, Operation, Seen, Wrong, check_calls, replay
 
 from job_host.catalogue.jobs import read_file
 
@@ -150,9 +150,11 @@ def test_a_run_that_may_not_be_is_refused(embedded_soak: Soaked, notes: Path, na
         embedded_soak.compare(embedded_soak.operations)
 
 
-def test_a_key_makes_a_second_operation_only_after_its_store_was_lost(embedded_soak: Soaked) -> None:
-    operations, parts = one_doubled(embedded_soak), embedded_soak.parts
-    words = (parts.batchctl, read_file(parts.catalogue), operations, embedded_soak.seen, parts.artifacts)
-    check(*words, Lost([*parts.stores_lost, len(operations) - 1], 8))
-    with pytest.raises(Wrong, match="were both made by the key"):
-        check(*words, Lost([*parts.stores_lost, len(operations)], 8))
+def test_a_refused_key_makes_an_operation_only_after_a_store_was_lost(embedded_soak: Soaked) -> None:
+    seen, operations = embedded_soak.seen, embedded_soak.operations
+    call = next(call for call in seen.calls if call.status < 400)
+    refused = replace(call, status=404, told={"title": "NoSuchJobExecutionException"}, operations=call.operations - 1)
+    others = Seen([refused, *(one for one in seen.calls if one.key != call.key)], [])
+    with pytest.raises(Wrong, match="was refused, and is in the history"):
+        check_calls(operations, others, Lost([call.operations], 8))
+    check_calls(operations, others, Lost([call.operations - 1], 8))

@@ -30,8 +30,6 @@ def add_serve(subcommands: Subcommands[argparse.ArgumentParser]) -> None:
     add("--catalogue", type=Path, required=True, metavar="FILE", help=jobs)
     data = "the folder of the history, if it isn't in PostgreSQL (default: %(default)s)"
     add("--data", type=Path, default=Path("jobhost-data"), metavar="DIR", help=data)
-    restored = "go on though the log and the store beside it are of different copies: request keys may not be known any more"
-    add("--restored", action="store_true", help=restored)
     postgres = "a PostgreSQL server that may be the primary; the option may come several times (default: none, and --data)"
     add("--postgres", action="append", default=[], metavar="DSN", help=postgres)
     batchctl = "the program batchctl (default: JOBHOST_BATCHCTL, else the path's, else this clone's)"
@@ -67,7 +65,6 @@ def run_serve(given: argparse.Namespace) -> int:
         catalogue=given.catalogue,
         batchctl=find_batchctl(given.batchctl),
         data=given.data,
-        restored=given.restored,
         postgres=tuple(given.postgres),
         host=given.host,
         port=given.port,

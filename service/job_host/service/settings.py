@@ -47,7 +47,6 @@ class ServeSettings:
     catalogue: Path
     batchctl: tuple[str, ...]
     data: Path = Path("jobhost-data")
-    restored: bool = False
     postgres: tuple[str, ...] = ()
     host: str = "127.0.0.1"
     port: int = DEFAULT_PORT

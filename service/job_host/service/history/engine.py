@@ -19,6 +19,7 @@ from job_host.service.history.changes import MOST_NAMED, Changes
 from job_host.service.history.coprocess import CoProcess, CoProcessEnded
 from job_host.service.history.execution_index import ExecutionIndex
 from job_host.service.history.open_index import OpenIndex
+from job_host.service.history.tags import TAB
 from job_host.service.history.work_items import LOST, Ended, EndedWork, Held
 from job_host.service.pages import Page
 
@@ -76,6 +77,7 @@ class Engine:
         # How many work items of each job execution are busy.
         self.busy: dict[int, int] = {}
         self.ended_work = EndedWork()
+        self.last_work = 0
         # Also those that failed long ago.
         self.failed_work = EndedWork()
         self.actions = Actions()
@@ -99,8 +101,8 @@ class Engine:
         """The sessions that hold work items."""
         return {held.session for held in self.held.values()}
 
-    def command(self, line: bytes, heard: Heard) -> None:
-        """Hands on a command. Whoever calls it holds `turn`."""
+    def command(self, line: bytes, heard: Heard, tag: bytes = b"") -> None:
+        """Hands on a command, with a tag if it has one. Whoever calls it holds `turn`."""
 
         def hear(reply: bytes | None) -> None:
             if reply is None:
@@ -112,7 +114,7 @@ class Engine:
             else:
                 heard(reply, None, self.entered)
 
-        self.process.send(line, hear)
+        self.process.send(tag + TAB + line if tag else line, hear)
 
     def enter(self, lines: Sequence[bytes], replies: Sequence[bytes]) -> None:
         """Notes what operations are on: work items, and job executions. Many at once cost less than one by one."""
@@ -193,6 +195,7 @@ class Engine:
             return int(reply["closed"])
         place = (work["work"], work["execution"], work["element"], work.get("partition"))
         self.held[work["work"]] = Held(*place, told["by"], told["at"])
+        self.last_work = max(self.last_work, work["work"])
         self.busy[work["execution"]] = self.busy.get(work["execution"], 0) + 1
         return int(work["execution"])
 

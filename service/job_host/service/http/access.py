@@ -22,6 +22,7 @@ ROLES = {
 }
 EVERYTHING = frozenset({"read", "operate", "work"})
 NAME = re.compile(r"[A-Za-z0-9][A-Za-z0-9._:@-]*")
+NAME_BYTES = 128
 LOOPBACK_NAMES = ("localhost", "127.0.0.1", "[::1]")
 
 
@@ -53,6 +54,11 @@ def digest(token: str) -> bytes:
     return hashlib.sha256(token.encode("utf-8", "surrogateescape")).digest()
 
 
+def is_name(text: str) -> bool:
+    """Whether a text may be the name of a token, and so the beginning of its clients' names."""
+    return len(text) <= NAME_BYTES and NAME.fullmatch(text) is not None
+
+
 def read_tokens(path: Path) -> dict[bytes, Caller]:
     """A file of tokens, a line each: role, name, token. Empty lines and lines that begin with `#` say nothing."""
     tokens: dict[bytes, Caller] = {}
@@ -60,7 +66,7 @@ def read_tokens(path: Path) -> dict[bytes, Caller]:
         words = line.split()
         if not words or words[0].startswith("#"):
             continue
-        if len(words) != 3 or words[0] not in ROLES or not NAME.fullmatch(words[1]) or len(words[2]) < 16:
+        if len(words) != 3 or words[0] not in ROLES or not is_name(words[1]) or len(words[2]) < 16:
             told = "not a role (reader, operator, worker), a name, and a token of at least 16 characters"
             raise SettingsRefused(f"{path}, line {number}: {told}")
         tokens[digest(words[2])] = Caller(words[1] + "/", ROLES[words[0]])

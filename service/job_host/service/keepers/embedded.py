@@ -1,11 +1,14 @@
-"""Keeping on one machine: operations in the log of batchctl, everything else in an SQLite file beside it."""
+"""Keeping on one machine: operations in the log of batchctl, with their clients and request keys, and an SQLite file beside it.
+
+The log is what holds. What the file knows of it is read out of it again if the file is lost, or of another copy.
+"""
 
 from __future__ import annotations
 
 import asyncio
 import logging
 import sqlite3
-from collections.abc import Callable, Iterable, Sequence
+from collections.abc import Callable, Sequence
 from concurrent.futures import ThreadPoolExecutor
 from contextlib import suppress
 from typing import TypeVar
@@ -15,16 +18,18 @@ from job_host.catalogue.check import NoVerdict
 from job_host.service.history import log_file
 from job_host.service.history.coprocess import CatalogueRefused, CoProcess, CoProcessEnded
 from job_host.service.history.engine import Engine
+from job_host.service.history.log_file import OtherLog, Search
 from job_host.service.keepers.embedded_term import Beside, EmbeddedTerm
 from job_host.service.keepers.keeper import Fatal, Keeper, check_catalogue, first_of, needed
+from job_host.service.keepers.noting import Noting
 from job_host.service.keepers.replayed_log import ReplayedLog
 from job_host.service.problems import Problem, unavailable
 from job_host.service.settings import ServeSettings
 from job_host.service.stores.beside_files import STORE_NAME, open_store
 from job_host.service.stores.private_folder import make_private
-from job_host.service.stores.sqlite import OpenRequest, SqliteStore, refuse_later_file
+from job_host.service.stores.sqlite import SqliteStore, refuse_later_file
 from job_host.service.stores.versions import LaterVersion
-from job_host.service.terms.calls import SERVICE_SESSION, Kept, LogPage, LogSize, WorkLog
+from job_host.service.terms.calls import LogPage, LogSize, WorkLog
 from job_host.service.terms.leases import Leases
 from job_host.service.terms.sessions import Sessions
 from job_host.service.terms.term import Observers, TermSettings, not_yet
@@ -82,12 +87,9 @@ class EmbeddedKeeper(Keeper):
         store: SqliteStore | None = None
         try:
             store = self._open_store()
-            self._beside = Beside(store, thread)
-            requests = store.open_requests()
-            engine, knows_all = await self._replayed.known(process, requests)
-            self.engine = engine
-            replies = await self._replayed.bring_on(engine, process, knows_all, requests)
-            await self._lead(engine, self._beside, zip(requests, replies, strict=True))
+            beside = self._beside = Beside(store, thread)
+            self.engine = await self._bring_on(process, beside)
+            await self._lead(self.engine, beside)
         except sqlite3.Error as fault:
             raise unavailable("StoreLost", f"{type(fault).__name__}: {fault}") from fault
         finally:
@@ -96,6 +98,27 @@ class EmbeddedKeeper(Keeper):
             thread.shutdown(wait=True)
             if store is not None:
                 store.close()
+
+    async def _bring_on(self, process: CoProcess, beside: Beside) -> Engine:
+        """An engine that knows the log. What the file beside it doesn't know of it is noted there."""
+        try:
+            return await self._noting(process, beside)
+        except OtherLog:
+            store = self._settings.data / STORE_NAME
+            log.warning(
+                "%s knows operations that aren't so in %s: what it knows is read out of the log again", store, self._log
+            )
+            await beside.do(lambda store: store.forget_log())
+            return await self._noting(process, beside)
+
+    async def _noting(self, process: CoProcess, beside: Beside) -> Engine:
+        noted, requests = await beside.do(lambda store: (store.noted(), store.open_requests()))
+        noting = Noting(process, beside, requests, self._settings.bounds.days_of_keys)
+        search = Search(noted.operations, noted.line, frozenset(request.line for request in requests))
+        engine = await self._replayed.bring_on(process, search, noting.note)
+        await noting.end()
+        await beside.do(lambda store: store.drop_unseen(engine.entered, engine.last_work))
+        return engine
 
     def _refuse_later(self) -> None:
         """Raises LaterVersion before batchctl has the log. A damaged file is told of when it is opened."""
@@ -123,7 +146,7 @@ class EmbeddedKeeper(Keeper):
         batchctl looks at the file first. If it is whole and has the jobs in another order, they are put into that order.
         """
         await check_catalogue(self._settings.batchctl, self._file)
-        words = [*self._settings.batchctl, "script", "--log", str(self._log)]
+        words = [*self._settings.batchctl, "script", "--log", str(self._log), "--tags"]
         catalogue = self._file
         for _ in range(int(IN_USE_SECONDS / RETRY)):
             try:
@@ -136,7 +159,7 @@ class EmbeddedKeeper(Keeper):
                     raise Fatal(f"{self._log}: {refused}") from refused
             except CoProcessEnded as ended:
                 if ended.status == REFUSED_WORDS:
-                    raise Fatal(f"{words[0]} has no `script --log`: {ended}") from ended
+                    raise Fatal(f"{words[0]} has no `script --log FILE --tags`: {ended}") from ended
                 raise
             await asyncio.sleep(RETRY)
         raise Fatal(f"{self._log} is in use by another program")
@@ -152,22 +175,17 @@ class EmbeddedKeeper(Keeper):
             raise Fatal(f"{self._log}: {refused}") from refused
         return arranged
 
-    async def _lead(self, engine: Engine, beside: Beside, settled: Iterable[tuple[OpenRequest, Kept | None]]) -> None:
-        for request, kept in settled:
-            await beside.do(lambda store, one=request, what=kept: store.settle(one, what))  # type: ignore[misc]
+    async def _lead(self, engine: Engine, beside: Beside) -> None:
         self._replayed.keep(engine)
-        await self._match(engine, beside)
         self.history = await beside.do(lambda store: store.identity())
         most = self._settings.bounds.clients
         clients = await beside.do(lambda store: store.clients(most))
         self._sessions = Sessions(clients, most, engine.last_session, engine.holding)
         settings = TermSettings(self._settings.refuse_from)
-        term = EmbeddedTerm(beside, engine, self._sessions, settings, self._observers)
+        term = EmbeddedTerm(beside, self.history, engine, self._sessions, settings, self._observers)
         self.term, self.role, self.epoch = term, "leader", self.epoch + 1
         log.warning("serves after %d operations", engine.entered)
         tasks = [
-            term.keep_intents(),
-            term.hand_over(),
             term.commit_rounds(),
             term.desk.serve(),
             term.desk.watch(),
@@ -182,30 +200,12 @@ class EmbeddedKeeper(Keeper):
             self.role, self.term, self.engine = "starting", None, None
             term.fail(unavailable("Starting", "this instance ends, or begins again"))
 
-    async def _match(self, engine: Engine, beside: Beside) -> None:
-        """Refuses a log and a store of which one is an older copy, unless that is meant.
-
-        A store that lacks a client of the log would give its session to another one, and make a keyed call twice. A key whose
-        reply saw more operations than the log has would be answered by what isn't there.
-        """
-        clients, seen = await beside.do(lambda store: (store.last_session(), store.last_seen()))
-        told = ""
-        if engine.last_session > max(clients, SERVICE_SESSION):
-            told = f"the log has a client with number {engine.last_session}, and the store knows none above {clients}"
-        elif seen > engine.entered:
-            told = f"the store has replies that saw {seen} operations, and the log has {engine.entered}"
-        if told and not self._settings.restored:
-            cure = "put the other one of the same copy back, or go on by --restored: docs/SERVICE.md"
-            raise Fatal(f"{self._log} and {self._settings.data / STORE_NAME} don't belong together: {told}; {cure}")
-        await beside.do(lambda store: store.drop_unseen(engine.entered))
-
     async def _forget_names(self, beside: Beside, term: EmbeddedTerm) -> None:
         """Forgets client names that hold no work item and weren't heard for long."""
         heard = term.sessions.take_heard()
         await beside.do(lambda store: store.note_heard(heard))
         found = await beside.do(lambda store: store.silent_clients(self._settings.bounds.name_seconds))
-        # The store knows the log's last client, by whose session a start tells whether both belong together.
-        silent = needed(term.engine, [one for one in found if one.number != term.engine.last_session])
+        silent = needed(term.engine, found)
         with term.sessions.forgetting(silent, term.engine.holding()) as dropped:
             await beside.do(lambda store: store.drop_clients(dropped))
 

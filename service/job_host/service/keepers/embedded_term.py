@@ -1,17 +1,19 @@
-"""A term over a log: what a call needs is kept in the SQLite file before its line is handed over."""
+"""A term over a log: each line has its client and its request key ahead of it, so that the log has them with the operation."""
 
 from __future__ import annotations
 
 import asyncio
 import sqlite3
-from collections import deque
+import time
 from collections.abc import Callable, Sequence
 from concurrent.futures import ThreadPoolExecutor
 from typing import Any, TypeVar
 
-from job_host.service.problems import Problem, unavailable
-from job_host.service.stores.sqlite import SqliteStore
-from job_host.service.terms.calls import Begun, Call, Item, Kept, KeptRequest
+from job_host.protocol.lines import digest
+from job_host.service.history.tags import Tag
+from job_host.service.problems import unavailable
+from job_host.service.stores.sqlite import Noted, Notes, Request, SqliteStore
+from job_host.service.terms.calls import SERVICE_SESSION, Call, Item, Kept, KeptRequest
 from job_host.service.terms.term import Term
 
 T = TypeVar("T")
@@ -33,23 +35,17 @@ class Beside:
 
 
 class EmbeddedTerm(Term):
-    """Keys, lines and moments are on the disk before lines are handed over; many in one commit while the last is under way.
-
-    Lines are handed over in the order of their moments. So a call that need not be kept before waits for the commit under way.
+    """An operation is on the disk, with its tag, when batchctl answers. Before a reply leaves, what the log lacks is kept:
+    the reply to a refused call with a key, and the log of a work item.
     """
 
-    def __init__(self, beside: Beside, *others: Any) -> None:
+    def __init__(self, beside: Beside, history: str, *others: Any) -> None:
         super().__init__(*others)
         self._beside = beside
-        # Calls that wait for the next commit, and those that have their moments, in that order.
-        self._waiting: list[Begun] = []
-        self._in_order: deque[Begun] = deque()
-        self._intent_made = asyncio.Event()
-        self._may_hand = asyncio.Event()
-        self._kept_sessions = set(self.sessions.numbers())
-        # Names that stand in the file, and of which no call was accepted yet.
-        self._guests: dict[str, int] = {}
-        self._unkept: list[Item] = []
+        self._history = history
+        # Sessions whose names the SQLite file has, and those that the log has named since this term began.
+        self._noted_sessions = set(self.sessions.numbers())
+        self._named_sessions = {SERVICE_SESSION}
 
     async def find(self, session: int, key: str) -> KeptRequest | None:
         return await self._beside.do(lambda store: store.request(session, key))
@@ -60,105 +56,45 @@ class EmbeddedTerm(Term):
     async def forget(self, key: str, kept: Kept) -> None:
         await self._beside.do(lambda store: store.drop_once({key: kept.reply}))
 
-    async def begin(self, call: Call) -> Item:
-        self.check(call)
-        begun, session = Begun(call), self.sessions.number(call.client)
-        if call.key is not None or session not in self._kept_sessions:
-            self._waiting.append(begun)
-            self._intent_made.set()
-        else:
-            begun.is_kept = True
-            self._put_in_order(begun)
-            self._hand_soon()
-        return await begun.handed
-
-    def _put_in_order(self, begun: Begun) -> None:
-        """Gives a call its moment, and its place behind those that have theirs. One that makes no line fails alone."""
-        try:
-            begun.item = self.item_of(begun.call)
-        except Exception as fault:
-            return begun.fail(fault)
-        self._in_order.append(begun)
-
-    async def keep_intents(self) -> None:
-        """Keeps what is about to be handed over, for ever."""
-        while True:
-            await self._intent_made.wait()
-            self._intent_made.clear()
-            waiting, self._waiting = self._waiting, []
-            await self._keep_intents(waiting)
-            self._hand_soon()
-
-    async def _keep_intents(self, waiting: list[Begun]) -> None:
-        for begun in waiting:
-            self._put_in_order(begun)
-        items = [begun.item for begun in waiting if begun.item is not None]
-        told = [(item, item.call.client) for item in items if item.call is not None]
-        clients = {client: item.session for item, client in told if item.session not in self._kept_sessions}
-        refused, dropped = self._take_refused(), self._unkept
-        self._guests.update((client, session) for client, session in clients.items() if self.sessions.is_new(client))
-        self._unkept = []
-        try:
-            await self._beside.do(lambda store: store.intend(items, clients, dropped, refused))
-        except Problem as problem:
-            return self.fail(problem)
-        self._kept_sessions.update(clients.values())
-        for begun in waiting:
-            begun.is_kept = True
-
-    async def hand_over(self) -> None:
-        """Hands over, for ever, what waits for the end of a read."""
-        while True:
-            await self._may_hand.wait()
-            self._may_hand.clear()
-            async with self.engine.turn:
-                self._hand_kept()
-
-    def _hand_soon(self) -> None:
-        """Hands over at once, unless a read of several steps has the turn. Nothing is awaited, so none begins meanwhile."""
-        if self.engine.turn.locked():
-            self._may_hand.set()
-        else:
-            self._hand_kept()
-
-    def _hand_kept(self) -> None:
-        while self._in_order and self._in_order[0].is_kept:
-            self._hand_first()
-
-    def _hand_first(self) -> None:
-        """Hands the first call over, unless nobody waits for it any more, or it may not be made any more."""
-        begun = self._in_order.popleft()
-        if begun.item is None or begun.handed.done():
-            return
-        try:
-            self.check(begun.call)
-        except Problem as problem:
-            return begun.fail(problem)
-        self.hand(begun.item)
-        begun.handed.set_result(begun.item)
-
-    def _take_refused(self) -> dict[str, int]:
-        """The clients of whose calls none was accepted, and none is in hand. They aren't known any more."""
-        refused = {client: session for client, session in self._guests.items() if not self.sessions.is_in_hand(client)}
-        for client, session in refused.items():
-            del self._guests[client]
-            self._kept_sessions.discard(session)
-        return refused
+    def item_of(self, call: Call) -> Item:
+        item = super().item_of(call)
+        history = "" if self.engine.entered else self._history
+        if call.key is not None or history or item.session not in self._named_sessions:
+            item.tag = Tag(call.client, call.key, call.fingerprint, call.is_once, history).written()
+        return item
 
     def note_accepted(self, client: str, session: int) -> None:
         super().note_accepted(client, session)
-        self._guests.pop(client, None)
-
-    def fail(self, problem: Problem) -> None:
-        """Ends the term. What is about to be handed over, or waits for that, never is."""
-        super().fail(problem)
-        for begun in [*self._waiting, *self._in_order]:
-            begun.fail(problem)
-        self._waiting.clear()
-        self._in_order.clear()
+        self._named_sessions.add(session)
 
     async def keep(self, items: Sequence[Item]) -> None:
-        if any(item.is_keyed or item.log is not None or item.number == 1 for item in items):
-            await self._beside.do(lambda store: store.answer(items))
-        # Their keys go with the next ones that come, so that a claim which finds no work costs one commit.
-        self._unkept += [item for item in items if item.call is not None and item.call.key is not None and not item.is_keyed]
+        notes = self._notes_of([item for item in items if item.call is not None or item.log is not None])
+        if not notes.is_empty:
+            await self._beside.do(lambda store: store.note(notes))
+            self._noted_sessions.update(notes.clients.values())
+
+    def _notes_of(self, items: Sequence[Item]) -> Notes:
+        keyed = [item for item in items if item.is_keyed]
+        entered = [item for item in items if item.number is not None]
+        logs = [item.log for item in items if item.log is not None]
+        return Notes(
+            requests=[request for item in keyed for request in _requests_of(item)],
+            clients=self._new_clients([*keyed, *entered]),
+            logs=logs,
+            last=Noted(entered[-1].number or 0, digest(entered[-1].line)) if entered else None,
+            first=next((digest(item.line) for item in entered if item.number == 1), None),
+            is_alone=bool(logs) or any(item.number is None for item in keyed),
+        )
+
+    def _new_clients(self, items: Sequence[Item]) -> dict[str, int]:
+        """The clients that the SQLite file doesn't name yet."""
+        told = [(item.call.client, item.session) for item in items if item.call is not None]
+        return {client: session for client, session in told if session not in self._noted_sessions}
+
+
+def _requests_of(item: Item) -> list[Request]:
+    """The request key of a call with its first reply, if it has one."""
+    if item.call is None or item.call.key is None:
+        return []
+    call, kept = item.call, item.kept()
+    return [Request(item.key_session, str(call.key), call.fingerprint, item.moment, item.line, kept, time.time())]

@@ -8,27 +8,45 @@ from __future__ import annotations
 
 import asyncio
 import logging
-from collections.abc import AsyncIterator, Iterable, Sequence
+from collections.abc import AsyncIterator, Awaitable, Callable, Iterable, Sequence
 from pathlib import Path
+from typing import NamedTuple
 
-from job_host.protocol.lines import read
 from job_host.service.history import log_file
 from job_host.service.history.answers import Answers
 from job_host.service.history.coprocess import CoProcess
-from job_host.service.history.engine import STATE, Engine, Record
+from job_host.service.history.engine import STATE, Engine
+from job_host.service.history.log_file import Found, Search
+from job_host.service.history.tags import lines_of
 from job_host.service.keepers.keeper import Fatal
-from job_host.service.stores.sqlite import OpenRequest
-from job_host.service.terms.calls import Kept
-from job_host.service.terms.follow_ups import follow_ups
 
 log = logging.getLogger(__name__)
 
 
-async def answered(process: CoProcess, lists: Iterable[list[bytes]]) -> AsyncIterator[tuple[list[bytes], list[bytes]]]:
-    """Hands over lists of lines, and gives each with its replies. The next one is under way before that."""
-    last: tuple[list[bytes], asyncio.Future[list[bytes]]] | None = None
-    for lines in lists:
-        coming = (lines, process.ask_all(lines))
+class Told(NamedTuple):
+    """An operation that was looked for, with its reply."""
+
+    found: Found
+    reply: bytes
+
+
+# What is done with operations that were looked for, some hundreds at a time, by rising number.
+Note = Callable[[list[Told]], Awaitable[None]]
+
+
+# What was kept, and the lines of that.
+Part = tuple[list[bytes], list[bytes]]
+
+
+async def answered(process: CoProcess, parts: Iterable[list[bytes]]) -> AsyncIterator[tuple[Part, list[bytes]]]:
+    """Hands over the lines of what was kept, and gives each part, with its lines, and its replies.
+
+    The next one is under way before that.
+    """
+    last: tuple[Part, asyncio.Future[list[bytes]]] | None = None
+    for kept in parts:
+        lines = lines_of(kept)
+        coming = ((kept, lines), process.ask_all(lines))
         coming[1].add_done_callback(lambda done: done.cancelled() or done.exception())
         if last is not None:
             yield last[0], await last[1]
@@ -44,65 +62,57 @@ class ReplayedLog:
         self._kept: Engine | None = None
 
     def keep(self, engine: Engine) -> None:
-        """Keeps an engine. From now on the replies to request keys that aren't settled stand in its `recent`."""
+        """Keeps an engine. From now on `recent` has what isn't noted yet."""
         engine.note_kept(engine.entered)
         self._kept = engine
 
-    async def known(self, process: CoProcess, requests: Sequence[OpenRequest]) -> tuple[Engine, bool]:
-        """The engine from before, if the log begins with all that it has entered, else a new one; and whether it knows all."""
+    async def bring_on(self, process: CoProcess, search: Search, note: Note) -> Engine:
+        """An engine that goes on with a batchctl that has opened the log. What is looked for is handed to `note`.
+
+        Raises OtherLog if the log lacks what is noted.
+        """
+        engine, told = await self._known(process, search)
+        if told is None:
+            await self._replay(engine, process, search, note)
+        elif told:
+            await note(told)
+        engine.process = process
+        return engine
+
+    async def _known(self, process: CoProcess, search: Search) -> tuple[Engine, list[Told] | None]:
+        """The engine from before, if the log begins with all that it has entered, else a new one. And what is looked for, if it
+        knows all of the log, and the replies to that."""
         engine = self._kept
         if engine is not None and engine.is_whole:
-            unknown = {request.line for request in requests} - {record.line for record in engine.recent}
-            told = await asyncio.to_thread(log_file.compare, self._path, engine.entered, engine.digest.value(), unknown)
-            knows_all = told.behind == 0 and not told.found and engine.state is not None
-            if told.is_begun_so and (not knows_all or await process.ask_all(STATE) == engine.state):
-                return engine, knows_all
+            seen = await asyncio.to_thread(log_file.compare, self._path, engine.entered, engine.digest.value(), search)
+            replies = {record.number: record.reply for record in engine.recent}
+            told = [Told(one, replies[one.number]) for one in seen.found if one.number in replies]
+            knows_all = seen.behind == 0 and len(told) == len(seen.found) and engine.state is not None
+            if seen.is_begun_so and (not knows_all or await process.ask_all(STATE) == engine.state):
+                return engine, told if knows_all else None
             log.warning("%s isn't what was entered before: all of it is replayed", self._path)
         self._kept = None
-        return Engine(process), False
+        return Engine(process), None
 
-    async def bring_on(
-        self, engine: Engine, process: CoProcess, knows_all: bool, requests: Sequence[OpenRequest]
-    ) -> list[Kept | None]:
-        """Lets an engine go on with a batchctl that has opened the log. Gives the replies to request keys that are in it."""
-        if not knows_all:
-            await self._replay(engine, process, {request.line for request in requests})
-        engine.process = process
-        return [await _first_reply(engine, request) for request in requests]
-
-    async def _replay(self, engine: Engine, process: CoProcess, wanted: set[bytes]) -> None:
-        """Hands all lines to another batchctl, and enters those behind the engine's. The wanted ones are in `recent` then."""
+    async def _replay(self, engine: Engine, process: CoProcess, search: Search, note: Note) -> None:
+        """Hands all lines to another batchctl, and enters those behind the engine's."""
         replayer = await CoProcess.start(self._words, process.catalogue)
         number = 0
         try:
-            async for lines, replies in answered(replayer, log_file.operations(self._path)):
+            async for (kept, lines), replies in answered(replayer, log_file.operations(self._path)):
+                found = search.found(number, kept)
                 known = max(0, engine.entered - number)
                 if known < len(lines):
                     engine.enter(lines[known:], replies[known:])
-                engine.recent.extend(_those_of(wanted, number, lines, replies))
+                if found:
+                    await note([Told(one, replies[one.number - number - 1]) for one in found])
                 number += len(lines)
+            search.check(number)
             theirs = await process.ask_all(STATE)
             _compare(theirs, await replayer.ask_all(STATE))
             engine.looked = Answers(theirs, engine.entered)
         finally:
             await replayer.close()
-
-
-def _those_of(wanted: set[bytes], before: int, lines: Sequence[bytes], replies: Sequence[bytes]) -> list[Record]:
-    """The operations whose lines are wanted. So many come before them."""
-    if wanted.isdisjoint(lines):
-        return []
-    numbered = enumerate(zip(lines, replies, strict=True), before + 1)
-    return [Record(number, line, reply) for number, (line, reply) in numbered if line in wanted]
-
-
-async def _first_reply(engine: Engine, request: OpenRequest) -> Kept | None:
-    """What an open request key was answered, if its line is in the log."""
-    record = next((one for one in engine.recent if one.line == request.line), None)
-    if record is None:
-        return None
-    queries = follow_ups(read(record.line)["do"], read(record.reply))
-    return Kept(record.reply, tuple(await engine.process.ask_all(queries)), record.number)
 
 
 def _compare(theirs: Sequence[bytes], ours: Sequence[bytes]) -> None:

@@ -1,4 +1,8 @@
-"""What an embedded service keeps beside its log: client names, request keys with their first replies, and workers' logs."""
+"""What an embedded service keeps beside its log: workers' logs, the first replies to refused calls with a key, and of the log's
+operations the client names and the first replies of request keys.
+
+What the log has may be read out of it again. So a commit waits for the disk only if it has something else.
+"""
 
 from __future__ import annotations
 
@@ -8,19 +12,17 @@ import sqlite3
 import stat
 import time
 import uuid
-from collections.abc import Mapping, Sequence
-from contextlib import closing
-from dataclasses import dataclass
+from collections.abc import Iterator, Mapping, Sequence
+from contextlib import closing, contextmanager
+from dataclasses import dataclass, field
 from pathlib import Path
 from typing import Any
 
-from job_host.protocol.lines import digest
 from job_host.service.history.log_file import Beginning
 from job_host.service.stores.sqlite_schema import migrate, refuse_later
 from job_host.service.terms.calls import (
     EVERYBODY_SESSION,
     LOG_END_CHARACTERS,
-    Item,
     Kept,
     KeptRequest,
     LogPage,
@@ -29,14 +31,13 @@ from job_host.service.terms.calls import (
 )
 from job_host.service.terms.sessions import Silent
 
-INTEND = """
-insert or replace into request (session, key, fingerprint, moment, line, kept_at) values (?, ?, ?, ?, ?, ?)
+REQUEST = """
+insert or replace into request (session, key, fingerprint, moment, line, reply, answers, seen, kept_at)
+values (?, ?, ?, ?, ?, ?, ?, ?, ?)
 """
-# A client of whose calls nothing is left.
-UNNAME = """
-delete from client where name = ? and session = ? and not exists (select 1 from request where request.session = client.session)
+NOTED = """
+insert into noted values (1, ?, ?) on conflict (one) do update set operations = excluded.operations, line = excluded.line
 """
-UNKEEP = "delete from request where session = ? and key = ? and moment = ? and reply is null"
 # A name that was forgotten may still stand here, if it was heard again at once.
 CLIENT = "insert into client values (?, ?) on conflict (name) do update set session = excluded.session"
 # A client that was never noted is taken as heard now.
@@ -69,12 +70,56 @@ ANSWER = "update request set reply = ?, answers = ?, seen = ? where session = ? 
 
 @dataclass(frozen=True)
 class OpenRequest:
-    """A request key whose line was handed over, and whose reply isn't kept."""
+    """A request key of an earlier version, whose line was handed over, and whose reply isn't kept."""
 
     session: int
     key: str
     moment: int
     line: bytes
+
+
+@dataclass(frozen=True)
+class Request:
+    """A request key with its first reply, and the line by which that call was made at a moment."""
+
+    session: int
+    key: str
+    fingerprint: bytes
+    moment: int
+    line: bytes
+    kept: Kept
+    kept_at: float
+
+    def row(self) -> tuple[Any, ...]:
+        answers = json.dumps([answer.decode() for answer in self.kept.answers])
+        head = (self.session, self.key, self.fingerprint, self.moment, self.line)
+        return (*head, self.kept.reply, answers, self.kept.seen, self.kept_at)
+
+
+@dataclass(frozen=True)
+class Noted:
+    """How many operations of a log are known, and a digest of the line of the last of these."""
+
+    operations: int = 0
+    line: str = ""
+
+
+@dataclass(frozen=True)
+class Notes:
+    """What operations tell: request keys with their replies, clients by name, logs of work items, and which is the last."""
+
+    requests: Sequence[Request] = ()
+    clients: Mapping[str, int] = field(default_factory=dict)
+    logs: Sequence[WorkLog] = ()
+    last: Noted | None = None
+    # The digest of the first operation of a history, if it is among them.
+    first: str | None = None
+    # Whether something is among them that the log doesn't have.
+    is_alone: bool = False
+
+    @property
+    def is_empty(self) -> bool:
+        return not self.requests and not self.clients and not self.logs and self.first is None
 
 
 @dataclass(frozen=True)
@@ -106,7 +151,8 @@ def refuse_later_file(path: Path) -> None:
 
 
 class SqliteStore:
-    """One connection, for one thread. Each commit is on the disk when its call returns. A new file is its owner's alone.
+    """One connection, for one thread. A new file is its owner's alone. A commit is on the disk when its call returns, but for
+    that of notes that the log has, too.
 
     Its tables are brought to this version. Raises LaterVersion if they are of a later one.
     """
@@ -146,8 +192,8 @@ class SqliteStore:
         return self._connection.execute("select 1 from request union all select 1 from client").fetchone() is None
 
     def begin_history(self, beginning: Beginning) -> None:
-        """Gives the file's history an identity if it has none, and keeps how it begins."""
-        row = (uuid.uuid4().hex, beginning.catalogue)
+        """Gives the file's history an identity if it has none, that of the log if this names one, and keeps how it begins."""
+        row = (beginning.identity or uuid.uuid4().hex, beginning.catalogue)
         with self._connection:
             self._connection.execute("begin")
             self._connection.execute("insert or ignore into history (one, identity, catalogue) values (1, ?, ?)", row)
@@ -189,68 +235,59 @@ class SqliteStore:
             self._connection.executemany("delete from client where name = ? and session = ?", clients.items())
             self._connection.executemany("delete from client_heard where session = ?", [(one,) for one in clients.values()])
 
-    def intend(
-        self, items: Sequence[Item], clients: Mapping[str, int], dropped: Sequence[Item], refused: Mapping[str, int]
-    ) -> None:
-        """Keeps what is about to be handed over: new clients, and of keyed calls the key, the line and its moment.
+    def noted(self) -> Noted:
+        row = self._connection.execute("select operations, line from noted").fetchone()
+        return Noted() if row is None else Noted(row[0], row[1])
 
-        The keys of `dropped` go, if nothing was handed over by them since; and the `refused` clients that hold no key.
-        """
-        now = time.time()
-        gone = [(item.key_session, item.call.key, item.moment) for item in dropped if item.call is not None]
-        rows = [
-            (item.key_session, item.call.key, item.call.fingerprint, item.moment, item.line, now)
-            for item in items
-            if item.call is not None and item.call.key is not None
-        ]
-        with self._connection:
+    def note(self, notes: Notes) -> None:
+        """Keeps notes, in one commit. It is on the disk at the end if something is among them that the log doesn't have."""
+        with self._syncing(notes.is_alone), self._connection:
             self._connection.execute("begin")
-            self._connection.executemany(UNKEEP, gone)
-            self._connection.executemany(UNNAME, refused.items())
-            self._connection.executemany(CLIENT, clients.items())
-            self._connection.executemany(INTEND, rows)
-
-    def answer(self, items: Sequence[Item]) -> None:
-        """Keeps first replies, logs, and the first operation of the history."""
-        first = next((digest(item.line) for item in items if item.number == 1), None)
-        keyed = [(item.key_session, item.call.key, item.kept()) for item in items if item.is_keyed and item.call is not None]
-        logs = [item.log for item in items if item.log is not None]
-        if not keyed and not logs and first is None:
-            return
-        with self._connection:
-            self._connection.execute("begin")
-            self._note_first(first)
-            for session, key, kept in keyed:
-                self._answer(session, str(key), kept)
-            rows = [(log.work, log.execution, log.element, log.partition, log.text) for log in logs]
+            self._note_first(notes.first)
+            self._connection.executemany(CLIENT, notes.clients.items())
+            self._connection.executemany(REQUEST, [request.row() for request in notes.requests])
+            rows = [(log.work, log.execution, log.element, log.partition, log.text) for log in notes.logs]
             self._connection.executemany("insert or replace into work_log values (?, ?, ?, ?, ?)", rows)
+            if notes.last is not None:
+                self._connection.execute(NOTED, (notes.last.operations, notes.last.line))
 
-    def _answer(self, session: int, key: str, kept: Kept) -> None:
-        answers = json.dumps([answer.decode() for answer in kept.answers])
-        self._connection.execute(ANSWER, (kept.reply, answers, kept.seen, session, key))
+    @contextmanager
+    def _syncing(self, is_waited_for: bool) -> Iterator[None]:
+        """Commits within the block wait for the disk, or not. A later commit that waits for it waits for theirs, too."""
+        if is_waited_for:
+            yield
+            return
+        self._connection.execute("pragma synchronous = normal")
+        try:
+            yield
+        finally:
+            self._connection.execute("pragma synchronous = full")
+
+    def forget_log(self) -> None:
+        """Forgets what was noted of a log, and the replies to refused calls. Logs of work items stay."""
+        with self._connection:
+            self._connection.execute("begin")
+            for table in ("request", "client", "client_heard", "noted"):
+                self._connection.execute(f"delete from {table}")
 
     def open_requests(self) -> list[OpenRequest]:
         rows = self._connection.execute("select session, key, moment, line from request where reply is null")
         return [OpenRequest(*row) for row in rows]
 
     def settle(self, request: OpenRequest, kept: Kept | None) -> None:
-        """Keeps the reply that a replay gave, or forgets the key: its line was never entered, and nobody was told a refusal."""
+        """Keeps the reply that a replay gave, or forgets the key: its line was never entered, and nobody was told a reply."""
+        statement, words = "delete from request where session = ? and key = ?", [request.session, request.key]
+        if kept is not None:
+            answers = json.dumps([answer.decode() for answer in kept.answers])
+            statement, words = ANSWER, [kept.reply, answers, kept.seen, *words]
+        self._connection.execute(statement, words)
+
+    def drop_unseen(self, operations: int, works: int) -> None:
+        """Drops what a log doesn't have that has so many operations and work items: an older copy has taken its place."""
         with self._connection:
             self._connection.execute("begin")
-            if kept is None:
-                self._connection.execute("delete from request where session = ? and key = ?", (request.session, request.key))
-            else:
-                self._answer(request.session, request.key, kept)
-
-    def last_session(self) -> int:
-        return int(self._connection.execute("select coalesce(max(session), 0) from client").fetchone()[0])
-
-    def last_seen(self) -> int:
-        return int(self._connection.execute("select coalesce(max(seen), 0) from request").fetchone()[0])
-
-    def drop_unseen(self, operations: int) -> None:
-        """Drops keys whose replies saw more operations than the log has: an older copy has taken its place."""
-        self._connection.execute("delete from request where seen > ?", (operations,))
+            self._connection.execute("delete from request where seen > ?", (operations,))
+            self._connection.execute("delete from work_log where work > ?", (works,))
 
     def request(self, session: int, key: str) -> KeptRequest | None:
         statement = "select fingerprint, reply, answers, seen from request where session = ? and key = ? and reply is not null"

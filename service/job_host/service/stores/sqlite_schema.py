@@ -47,8 +47,18 @@ create table if not exists work_log (
 """,
     "create index if not exists work_log_execution on work_log (execution)",
 )
+# How many operations of the log the file knows, and a digest of the line of the last of these.
+SECOND = (
+    """
+create table if not exists noted (
+    one integer primary key check (one = 1),
+    operations integer not null,
+    line text not null
+)
+""",
+)
 # The statements that bring each version to the next one. They are never changed: a later version has statements of its own.
-MIGRATIONS: list[Iterable[str]] = [FIRST]
+MIGRATIONS: list[Iterable[str]] = [FIRST, SECOND]
 
 
 def version_of(connection: sqlite3.Connection) -> int:

@@ -120,6 +120,8 @@ class Item:
     session: int
     line: bytes = b""
     moment: int = 0
+    # What the log keeps ahead of the line.
+    tag: bytes = b""
     reply: bytes = b""
     number: int | None = None
     seen: int = 0
@@ -153,16 +155,3 @@ class Item:
     def fail(self, problem: Exception) -> None:
         _fail(self.heard, problem)
         _fail(self.done, problem)
-
-
-@dataclass(eq=False)
-class Begun:
-    """A call on its way to its hand-over. Once it has its moment it is an item, which is handed over after it is kept."""
-
-    call: Call
-    item: Item | None = None
-    is_kept: bool = False
-    handed: asyncio.Future[Item] = field(default_factory=lambda: asyncio.get_running_loop().create_future())
-
-    def fail(self, problem: Exception) -> None:
-        _fail(self.handed, problem)

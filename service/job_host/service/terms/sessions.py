@@ -31,11 +31,10 @@ class Silent:
 
 @dataclass
 class InHand:
-    """How many calls of a client are in hand, and its session, if it is no kept name's. A new one was never given before."""
+    """How many calls of a client are in hand, and its session, if it is no kept name's."""
 
     calls: int = 0
     number: int | None = None
-    is_new: bool = False
 
 
 def nothing_held() -> Container[int]:
@@ -94,7 +93,7 @@ class Sessions:
             self._last += 1
             number = self._last
             if name in self._in_hand:
-                self._in_hand[name].number, self._in_hand[name].is_new = number, True
+                self._in_hand[name].number = number
         return number
 
     def is_known(self, name: str) -> bool:
@@ -102,13 +101,6 @@ class Sessions:
         hand = self._in_hand.get(name)
         has_number = hand is not None and hand.number is not None
         return name == SERVICE or name in self._numbers or name in self._dropping or has_number
-
-    def is_in_hand(self, name: str) -> bool:
-        return name in self._in_hand
-
-    def is_new(self, name: str) -> bool:
-        """Whether the session of a client with a call in hand was never given before."""
-        return name in self._in_hand and self._in_hand[name].is_new
 
     def remember(self, name: str, number: int) -> None:
         """The store's session of a client with a call in hand, whose name isn't about to be dropped there."""

@@ -184,7 +184,7 @@ class Term(ABC):
 
     def hand(self, item: Item) -> None:
         self._queue.append(item)
-        self.engine.command(item.line, lambda reply, number, seen: self._hear(item, reply, number, seen))
+        self.engine.command(item.line, lambda reply, number, seen: self._hear(item, reply, number, seen), item.tag)
 
     def _hear(self, item: Item, reply: bytes | None, number: int | None, seen: int) -> None:
         """Notes a reply, and asks what belongs to it."""
