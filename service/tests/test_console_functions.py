@@ -22,7 +22,7 @@ TIMES: list[tuple[str, Any]] = [
     ("lasting(0)", "0.0 s"),
     ("lasting(9.94)", "9.9 s"),
     ("lasting(10)", "10 s"),
-    ("lasting(59.4)", "59 s"),
+    ("lasting(59.7)", "59 s"),
     ("lasting(60)", "1 min 0 s"),
     ("lasting(3599)", "59 min 59 s"),
     ("lasting(3600)", "1 h 0 min"),
@@ -104,6 +104,8 @@ REQUESTS: list[tuple[str, Any]] = [
     ("/^[0-9a-f]{32}$/.test(requestKey()) && requestKey() !== requestKey()", True),
 ]
 
+ONE_OF_MANY = "partitionsBar(64, new Map([['FAILED', 63], ['LOST', 1]]))"
+ALL_BUT_ONE = "partitionsBar(64, new Map([['COMPLETED', 63], ['FAILED', 1]]))"
 GROUPS = "partitionsBar(4, new Map([['COMPLETED', 1], ['FAILED', 2]]), ', on this page')"
 PAST = f"tookBar({{startTime: {SIX}, endTime: {LATER}, past: {{median: 3, longest: 6}}}})"
 SHORT_PAST = f"tookBar({{startTime: {SIX}, endTime: {LATER}, past: {{median: 0.5, longest: 1}}}})"
@@ -116,7 +118,9 @@ def parts(bar: str) -> str:
 
 
 BARS: list[tuple[str, Any]] = [
-    (parts(GROUPS), [["whole", 0, 1], ["status-COMPLETED", 0, 0.25], ["status-FAILED", 0.25, 0.5]]),
+    (parts(GROUPS), [["whole", 0, 1], ["status-FAILED", 0, 0.5], ["status-COMPLETED", 0.5, 0.25]]),
+    (parts(ONE_OF_MANY), [["whole", 0, 1], ["status-LOST", 0, 4 / 56], ["status-FAILED", 4 / 56, 52 / 56]]),
+    (parts(ALL_BUT_ONE), [["whole", 0, 1], ["status-FAILED", 0, 4 / 56], ["status-COMPLETED", 4 / 56, 52 / 56]]),
     (f"text(all({GROUPS}, 'title'))", "4 partitions, on this page: 1 COMPLETED, 2 FAILED"),
     ("text(all(partitionsBar(1, new Map()), 'title'))", "1 partition: none was claimed"),
     (f"{parts(PAST)}.slice(0, 2)", [["whole", 0, 1], ["took", 0, 0.25]]),
@@ -419,7 +423,10 @@ PLANTS = {
         ("service.js", "new Uint8Array(16)", "new Uint8Array(8)"),
     ],
     "bars.js": [
-        ("bars.js", "x += (WIDTH * number) / partitions;", ""),
+        ("bars.js", "x += width;", ""),
+        ("bars.js", "const LEAST = 4;", "const LEAST = 0;"),
+        ("bars.js", ".sort(isDrawnBefore)", ""),
+        ("bars.js", '(outcome === "COMPLETED") - (other === "COMPLETED") || ', ""),
         ("bars.js", "${number} ${outcome}", "${outcome} ${number}"),
         ("bars.js", 'words || "none was claimed"', "words"),
         ("bars.js", "place(past.median)", "place(past.longest)"),

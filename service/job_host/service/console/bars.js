@@ -4,6 +4,8 @@ import { count, date, drawing, element, lasting } from "./dom.js";
 
 const WIDTH = 56;
 const HEIGHT = 8;
+// One partition of many is seen if it isn't COMPLETED.
+const LEAST = 4;
 
 function bar(label, ...parts) {
   const size = { viewBox: `0 0 ${WIDTH} ${HEIGHT}`, width: WIDTH, height: HEIGHT };
@@ -29,14 +31,21 @@ export function tookBar({ startTime, endTime, past }) {
     part("median", Math.min(WIDTH - 2, place(past.median)), 2));
 }
 
+// The few come before the many, and COMPLETED last, so the bar's end cuts off nothing that is hardly seen.
+function isDrawnBefore([outcome, number], [other, more]) {
+  return (outcome === "COMPLETED") - (other === "COMPLETED") || number - more;
+}
+
 // `groups` has how many partitions came to each outcome. What is left of the bar wasn't claimed yet.
 export function partitionsBar(partitions, groups, where = "") {
   const words = [...groups].map(([outcome, number]) => `${number} ${outcome}`).join(", ");
   const label = `${count(partitions, "partition")}${where}: ${words || "none was claimed"}`;
   let x = 0;
-  const parts = [...groups].map(([outcome, number]) => {
-    const drawn = part(`status-${outcome}`, x, (WIDTH * number) / partitions);
-    x += (WIDTH * number) / partitions;
+  const parts = [...groups].sort(isDrawnBefore).map(([outcome, number]) => {
+    const share = (WIDTH * number) / partitions;
+    const width = Math.min(outcome === "COMPLETED" ? share : Math.max(LEAST, share), WIDTH - x);
+    const drawn = part(`status-${outcome}`, x, width);
+    x += width;
     return drawn;
   });
   return element("span", { class: "partitions" }, bar(label, part("whole", 0, WIDTH), parts), ` ${partitions}`);

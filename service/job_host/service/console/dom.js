@@ -142,7 +142,7 @@ export function span(from, until) {
 
 export function lasting(seconds) {
   if (seconds < 10) return `${seconds.toFixed(1)} s`;
-  if (seconds < 60) return `${Math.round(seconds)} s`;
+  if (seconds < 60) return `${Math.floor(seconds)} s`;
   const [hours, minutes, rest] = [Math.floor(seconds / 3600), Math.floor(seconds / 60) % 60, Math.floor(seconds) % 60];
   return hours ? `${hours} h ${minutes} min` : `${minutes} min ${rest} s`;
 }
