@@ -1,4 +1,4 @@
-"""Fixtures: a PostgreSQL server for the session, a database for each test, and a catalogue."""
+"""Fixtures: a PostgreSQL server for the session, an empty database for each test, and a catalogue."""
 
 from __future__ import annotations
 
@@ -16,6 +16,7 @@ sys.path.insert(0, str(Path(__file__).resolve().parent))
 sys.path.insert(0, str(Path(__file__).resolve().parents[1]))
 
 import artifact_files  # noqa: E402
+from browser import Browser, browsing  # noqa: E402
 from postgres_server import PostgresServer  # noqa: E402
 
 from job_host.commands.command_line import main  # noqa: E402
@@ -49,13 +50,25 @@ def postgres() -> Iterator[PostgresServer]:
     server.remove()
 
 
+@pytest.fixture(scope="session")
+def chromium() -> Iterator[Browser]:
+    """A browser that the tests of the console share: to start one takes some seconds of the processor."""
+    with browsing() as one:
+        yield one
+
+
+@pytest.fixture(scope="session")
+def database(postgres: PostgresServer) -> str:
+    """The database that tests use one after another: to make a new one for each takes a tenth of a second more."""
+    postgres.sql("create database tests")
+    return postgres.dsn_of("tests")
+
+
 @pytest.fixture
-def dsn(postgres: PostgresServer, request: pytest.FixtureRequest) -> Iterator[str]:
-    """A new database."""
-    name = f"test_{abs(hash(request.node.nodeid))}"
-    postgres.sql(f"create database {name}")
-    yield postgres.dsn.rsplit("/", 1)[0] + "/" + name
-    postgres.sql(f"drop database {name} with (force)")
+def dsn(postgres: PostgresServer, database: str) -> Iterator[str]:
+    """An empty database."""
+    yield database
+    postgres.empty("tests")
 
 
 @pytest.fixture

@@ -10,7 +10,7 @@ from pathlib import Path
 from typing import Any
 
 import pytest
-from browser import Browser, browsing
+from browser import Browser
 from instances import Answer, Caller, Process
 from test_catalogue_picture import DEEP, dense
 from workers import WorkerProcess
@@ -77,9 +77,13 @@ JOBS = [
 
 
 @pytest.fixture(scope="module", name="browser")
-def browser_made() -> Iterator[Browser]:
-    with browsing() as one:
-        yield one
+def browser_made(chromium: Browser) -> Iterator[Browser]:
+    """The session's browser, as a new one is. It leaves the page behind whose service is gone."""
+    chromium.size(1280, 900)
+    chromium.scheme("light")
+    yield chromium
+    chromium.open("about:blank")
+    chromium.complaints()
 
 
 @pytest.fixture(name="artifacts")

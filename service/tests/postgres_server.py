@@ -61,8 +61,11 @@ class PostgresServer:
 
     @property
     def dsn(self) -> str:
+        return self.dsn_of("postgres")
+
+    def dsn_of(self, database: str) -> str:
         user = ACCOUNT if os.getuid() == 0 else pwd.getpwuid(os.getuid()).pw_name
-        return f"postgresql://{user}@127.0.0.1:{self.port}/postgres"
+        return f"postgresql://{user}@127.0.0.1:{self.port}/{database}"
 
     def start(self) -> None:
         """Starts the server, and waits until it answers."""
@@ -81,9 +84,15 @@ class PostgresServer:
         words = [str(programs() / "pg_isready"), "-q", "-h", "127.0.0.1", "-p", str(self.port)]
         return subprocess.run(words, check=False).returncode == 0
 
-    def sql(self, statement: str) -> str:
-        words = [str(programs() / "psql"), "-X", "-A", "-t", "-q", "-d", self.dsn, "-c", statement]
+    def sql(self, statement: str, database: str = "postgres") -> str:
+        words = [str(programs() / "psql"), "-X", "-A", "-t", "-q", "-d", self.dsn_of(database), "-c", statement]
         return subprocess.run(words, check=True, capture_output=True, text=True).stdout.strip()
+
+    def empty(self, database: str) -> None:
+        """Ends each connection to a database, and drops all that it has."""
+        others = f"datname = '{database}' and pid <> pg_backend_pid()"
+        end = f"select pg_terminate_backend(pid) from pg_stat_activity where {others}"
+        self.sql(f"{end}; set client_min_messages = error; drop schema public cascade; create schema public", database)
 
     def make_standby(self, port: int | None = None, **options: str) -> PostgresServer:
         """A standby of this server, which streams from it. It is started."""

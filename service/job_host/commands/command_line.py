@@ -3,16 +3,12 @@
 from __future__ import annotations
 
 import argparse
-import asyncio
 import sys
 from collections.abc import Sequence
 from pathlib import Path
+from typing import Any
 
-from job_host.commands import catalogue, options
-from job_host.commands.jobs import address_of
-from job_host.commands.options import Subcommands
 from job_host.commands.program import find_batchctl
-from job_host.commands.versions import ShowVersion
 from job_host.protocol.addresses import DEFAULT_PORT
 from job_host.protocol.bounds import REQUESTS_AT_ONCE
 from job_host.protocol.printable import begin_log
@@ -20,6 +16,8 @@ from job_host.service.settings import ServeSettings
 
 # Each busy slot may have a heartbeat and a report in hand.
 MOST_SLOTS = REQUESTS_AT_ONCE // 2
+
+Subcommands = argparse._SubParsersAction  # argparse has no public name for it
 
 
 def add_serve(subcommands: Subcommands[argparse.ArgumentParser]) -> None:
@@ -83,9 +81,11 @@ def run_serve(given: argparse.Namespace) -> int:
 
 
 def add_worker(subcommands: Subcommands[argparse.ArgumentParser]) -> None:
+    from job_host.commands.address import OWN_NAME, add_address
+
     told = "runs work items by the executables of a folder"
     parser = subcommands.add_parser("worker", help=told, description=told)
-    options.add_address(parser, f"{options.OWN_NAME}, and a mark of this start")
+    add_address(parser, f"{OWN_NAME}, and a mark of this start")
     parser.add_argument("--artifacts", type=Path, required=True, metavar="DIR", help="the folder of executables")
     slots = f"how many work items run at a time, 1 to {MOST_SLOTS} (default: %(default)s)"
     parser.add_argument("--slots", type=int, default=1, metavar="N", help=slots)
@@ -93,6 +93,9 @@ def add_worker(subcommands: Subcommands[argparse.ArgumentParser]) -> None:
 
 
 def run_worker(given: argparse.Namespace) -> int:
+    import asyncio
+
+    from job_host.commands.address import address_of
     from job_host.worker.worker import work, worker_address
 
     begin_log("jobhost worker")
@@ -103,17 +106,47 @@ def run_worker(given: argparse.Namespace) -> int:
     return 0
 
 
-def make_parser() -> argparse.ArgumentParser:
+class ShowVersion(argparse.Action):
+    """Prints the versions, and ends with status 0."""
+
+    def __init__(self, **given: Any) -> None:
+        super().__init__(nargs=0, **given)
+
+    def __call__(self, parser: argparse.ArgumentParser, *given: Any) -> None:
+        from job_host.commands.versions import batchctl_version, own_version
+
+        print(f"jobhost {own_version()}\n{batchctl_version()}")
+        parser.exit()
+
+
+def add_client(subcommands: Subcommands[argparse.ArgumentParser]) -> None:
+    from job_host.commands.options import add_commands
+
+    add_commands(subcommands)
+
+
+def add_catalogue(subcommands: Subcommands[argparse.ArgumentParser]) -> None:
+    from job_host.commands import catalogue
+
+    catalogue.add_catalogue(subcommands)
+
+
+# The commands that need least for themselves. All others are the client's.
+ALONE = {"serve": add_serve, "worker": add_worker, "catalogue": add_catalogue}
+
+
+def make_parser(command: str | None = None) -> argparse.ArgumentParser:
+    """The words of the command line: of this command alone, or of all. What a command doesn't need isn't loaded with it."""
     parser = argparse.ArgumentParser(prog="jobhost", description="Serves, runs and watches batch jobs over batchctl script.")
     parser.add_argument("--version", action=ShowVersion, help="prints the versions of jobhost and of batchctl")
     subcommands = parser.add_subparsers(required=True, metavar="COMMAND")
-    add_serve(subcommands)
-    add_worker(subcommands)
-    options.add_commands(subcommands)
-    catalogue.add_catalogue(subcommands)
+    for add in [ALONE[command]] if command in ALONE else [add_serve, add_worker, add_client, add_catalogue]:
+        if command not in subcommands.choices:
+            add(subcommands)
     return parser
 
 
 def main(arguments: Sequence[str] | None = None) -> int:
-    given = make_parser().parse_args(arguments)
+    words = sys.argv[1:] if arguments is None else list(arguments)
+    given = make_parser(words[0] if words else None).parse_args(words)
     return int(given.run(given))

@@ -4,10 +4,6 @@ from __future__ import annotations
 
 import argparse
 import asyncio
-import getpass
-import os
-import re
-import socket
 import sys
 from collections.abc import AsyncIterator, Awaitable, Callable
 from typing import Any
@@ -16,10 +12,11 @@ from urllib.parse import urlencode
 from rich.console import Console
 from rich.live import Live
 
+from job_host.commands.address import address_of
 from job_host.commands.terminal import execution_table, instance_table, operation_table, parameter_words, work_table
 from job_host.protocol.batch_statuses import UNFINISHED
 from job_host.protocol.bounds import PAGE_OF_LARGE_ROWS, PAGE_SIZE
-from job_host.protocol.client import Address, Client, Refused, Unreachable, read_token, urls_of
+from job_host.protocol.client import Client, Refused, Unreachable
 from job_host.protocol.lines import fingerprint
 from job_host.protocol.printable import printable, printable_lines
 
@@ -28,21 +25,6 @@ STATUS = {"COMPLETED": 0, "FAILED": 3, "STOPPED": 4, "ABANDONED": 5}
 POLL = 0.5
 
 Command = Callable[[Client, argparse.Namespace], Awaitable[int]]
-
-
-def address_of(given: argparse.Namespace) -> Address:
-    """Where the service is, by options or by the environment."""
-    client = given.client or own_name()
-    return Address(urls_of(given.url), client, read_token(given.token), given.authority, given.patience)
-
-
-def own_name() -> str:
-    """The user's name and the machine's. A user id without a name, as containers have, stands for itself."""
-    try:
-        user = getpass.getuser()
-    except (KeyError, OSError):
-        user = str(os.getuid())
-    return re.sub(r"[^A-Za-z0-9._-]", "-", f"{user}-{socket.gethostname()}").lstrip("._-") or "somebody"
 
 
 def parameters_of(words: list[str]) -> dict[str, str]:

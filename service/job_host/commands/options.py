@@ -3,16 +3,11 @@
 from __future__ import annotations
 
 import argparse
-import os
-from pathlib import Path
 
 from job_host.commands import jobs, open_items
+from job_host.commands.address import Subcommands, add_address
 from job_host.commands.jobs import Command
-from job_host.protocol.addresses import DEFAULT_URL
 
-Subcommands = argparse._SubParsersAction  # argparse has no public name for it
-
-OWN_NAME = "the user's name, or the number of a user without one, and the machine's name"
 WAITS = "waits for the end: the exit status is 0 COMPLETED, 3 FAILED, 4 STOPPED, 5 ABANDONED"
 
 
@@ -21,19 +16,6 @@ def positive(text: str) -> int:
     if not text.isascii() or not text.isdigit() or int(text) < 1:
         raise argparse.ArgumentTypeError(f"{text!r} is no whole number from 1 on")
     return int(text)
-
-
-def add_address(parser: argparse.ArgumentParser, own_name: str = OWN_NAME) -> None:
-    """Where the service is, and as whom it is called."""
-    url = f"the service, or its instances with commas between them (default: JOBHOST_URL, else {DEFAULT_URL})"
-    parser.add_argument("--url", default=os.environ.get("JOBHOST_URL", DEFAULT_URL), metavar="URL[,URL..]", help=url)
-    token = "a file with the token (default: JOBHOST_TOKEN_FILE, else none)"
-    parser.add_argument("--token", type=Path, default=os.environ.get("JOBHOST_TOKEN_FILE"), metavar="FILE", help=token)
-    authority = "the certificate that signed the service's (default: those that this machine trusts)"
-    parser.add_argument("--authority", type=Path, metavar="FILE", help=authority)
-    parser.add_argument("--client", metavar="NAME", help=f"the client's name (default: {own_name})")
-    patience = "for how long the service is tried (default: %(default)g)"
-    parser.add_argument("--patience", type=float, default=30.0, metavar="SECONDS", help=patience)
 
 
 def add_command(

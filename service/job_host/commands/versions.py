@@ -2,12 +2,10 @@
 
 from __future__ import annotations
 
-import argparse
 import subprocess
 import tomllib
 from importlib import metadata
 from pathlib import Path
-from typing import Any
 
 from job_host.commands.program import find_batchctl
 
@@ -30,14 +28,3 @@ def batchctl_version() -> str:
     except (OSError, subprocess.SubprocessError) as fault:
         return f"batchctl: {fault}"
     return f"{done.stdout.decode('utf-8', 'replace').strip()} ({program})"
-
-
-class ShowVersion(argparse.Action):
-    """Prints the versions, and ends with status 0."""
-
-    def __init__(self, **given: Any) -> None:
-        super().__init__(nargs=0, **given)
-
-    def __call__(self, parser: argparse.ArgumentParser, *given: Any) -> None:
-        print(f"jobhost {own_version()}\n{batchctl_version()}")
-        parser.exit()
