@@ -15,7 +15,8 @@ import pytest
 from catalogue_samples import BATCHCTL, catalogues_of_the_repository, checked, one_job, step, told
 from random_catalogues import random_catalogue
 
-from job_host.catalogue.check import NoVerdict, Verdict, ask, check, found_faults, in_order_of
+from job_host.catalogue.check import Verdict, ask, check, found_faults, in_order_of
+from job_host.catalogue.faults import NoVerdict
 from job_host.catalogue.file import CatalogueFile, read_json
 from job_host.catalogue.jobs import read_file
 from job_host.catalogue.text import MOST_LINE_BYTES, Source, one_line

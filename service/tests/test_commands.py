@@ -18,7 +18,8 @@ import pytest
 from conftest import Say
 from instances import Caller, running
 
-from job_host.commands import jobs, open_items
+from job_host.commands import open_items
+from job_host.commands.address import address_of
 from job_host.commands.command_line import main, make_parser
 from job_host.commands.terminal import clock
 from job_host.service.settings import ServeSettings
@@ -55,7 +56,7 @@ def nameless(monkeypatch: pytest.MonkeyPatch) -> list[int]:
 
 def test_a_user_id_without_a_name_stands_for_itself(nameless: list[int], capsys: pytest.CaptureFixture[str]) -> None:
     given = argparse.Namespace(url="http://one", client=None, token=None, authority=None, patience=1.0)
-    assert jobs.address_of(given).client == f"{os.getuid()}-{socket.gethostname()}"
+    assert address_of(given).client == f"{os.getuid()}-{socket.gethostname()}"
     assert main(NOBODY) == 1
     assert capsys.readouterr().err.startswith("jobhost: GET /batch/jobinstances")
 

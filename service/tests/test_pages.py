@@ -187,7 +187,7 @@ async def test_other_bounds_of_a_page(settings: Make) -> None:
 
 
 async def test_commands_show_all_pages(settings: Make, say: Say, monkeypatch: pytest.MonkeyPatch) -> None:
-    monkeypatch.setattr("job_host.commands.jobs.PAGE_SIZE", 20)
+    monkeypatch.setattr("job_host.commands.shown.PAGE_SIZE", 20)
     monkeypatch.setattr("job_host.commands.jobs.PAGE_OF_LARGE_ROWS", 13)
     monkeypatch.setenv("COLUMNS", "200")
     async with running(settings()) as instance:

@@ -9,7 +9,7 @@ from typing import Any, cast
 
 import pytest
 
-from job_host.commands import jobs, open_items
+from job_host.commands import jobs, open_items, shown
 from job_host.commands.command_line import main
 from job_host.protocol.client import Client, Refused
 from job_host.protocol.printable import PrintableFormatter, printable, printable_lines
@@ -71,10 +71,10 @@ class Answers:
         (jobs.show_log, {}),
         (open_items.failed, {"job": None, "count": 5}),
         (open_items.open_items, {"job": None, "count": 5}),
-        (jobs.status, {}),
-        (jobs.watch, {}),
-        (jobs.list_instances, {"job": None, "count": 5}),
-        (jobs.show_work, {}),
+        (shown.status, {}),
+        (shown.watch, {}),
+        (shown.list_instances, {"job": None, "count": 5}),
+        (shown.show_work, {}),
         (jobs.restart, {"parameter": [], "no_parameters": False, "wait": True}),
     ],
 )

@@ -9,7 +9,7 @@ from dataclasses import dataclass
 from pathlib import Path
 from typing import Any
 
-from job_host.catalogue.faults import BAD_ELEMENT, NOBODY, Fault, Note, Owner
+from job_host.catalogue.faults import BAD_ELEMENT, NOBODY, Fault, Note, NoVerdict, Owner
 from job_host.catalogue.file import CatalogueFile
 from job_host.catalogue.members import MemberFinder
 from job_host.catalogue.structure import StructureFinder, faults_of_catalogue
@@ -20,10 +20,6 @@ from job_host.catalogue.warnings import Artifacts, Warner, jobs_alike, repeated
 CATALOGUE_REFUSED = 3
 
 Answer = dict[str, Any]
-
-
-class NoVerdict(Exception):
-    """batchctl could not be asked, or gave no verdict."""
 
 
 @dataclass(frozen=True)

@@ -81,3 +81,7 @@ class Note:
         owner = f" in {self.owner.told}" if self.owner.told else ""
         told = f"{self.word}{owner}: {self.told}"
         return f"{told}; did you mean `{self.likely}`?" if self.likely else told
+
+
+class NoVerdict(Exception):
+    """batchctl could not be asked, or gave no verdict."""

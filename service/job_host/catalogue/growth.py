@@ -8,7 +8,7 @@ from collections.abc import Iterator, Sequence
 from pathlib import Path
 from tempfile import TemporaryDirectory
 
-from job_host.catalogue.check import NoVerdict
+from job_host.catalogue.faults import NoVerdict
 from job_host.catalogue.diff import changes_of_job
 from job_host.catalogue.jobs import arranged, jobs_of
 from job_host.protocol.lines import compact

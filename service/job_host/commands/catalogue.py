@@ -12,10 +12,10 @@ from pathlib import Path
 from typing import TextIO
 
 from job_host.catalogue import jsl, jsl_text
-from job_host.catalogue.check import Checked, NoVerdict, ask, check, jobs_in
+from job_host.catalogue.check import Checked, ask, check, jobs_in
 from job_host.catalogue.diagram import draw
 from job_host.catalogue.diff import compare
-from job_host.catalogue.faults import Fault, Note
+from job_host.catalogue.faults import Fault, Note, NoVerdict
 from job_host.catalogue.file import CatalogueFile, read_data, read_jsl
 from job_host.catalogue.growth import changed_jobs, is_begun_by
 from job_host.catalogue.schema import schema_of_catalogues

@@ -119,10 +119,16 @@ class ShowVersion(argparse.Action):
         parser.exit()
 
 
-def add_client(subcommands: Subcommands[argparse.ArgumentParser]) -> None:
-    from job_host.commands.options import add_commands
+def add_changes(subcommands: Subcommands[argparse.ArgumentParser]) -> None:
+    from job_host.commands import options
 
-    add_commands(subcommands)
+    options.add_changes(subcommands)
+
+
+def add_lists(subcommands: Subcommands[argparse.ArgumentParser]) -> None:
+    from job_host.commands import options
+
+    options.add_lists(subcommands)
 
 
 def add_catalogue(subcommands: Subcommands[argparse.ArgumentParser]) -> None:
@@ -131,8 +137,9 @@ def add_catalogue(subcommands: Subcommands[argparse.ArgumentParser]) -> None:
     catalogue.add_catalogue(subcommands)
 
 
-# The commands that need least for themselves. All others are the client's.
+# What adds one command. All others are the client's.
 ALONE = {"serve": add_serve, "worker": add_worker, "catalogue": add_catalogue}
+ALL = (add_serve, add_worker, add_changes, add_lists, add_catalogue)
 
 
 def make_parser(command: str | None = None) -> argparse.ArgumentParser:
@@ -140,7 +147,7 @@ def make_parser(command: str | None = None) -> argparse.ArgumentParser:
     parser = argparse.ArgumentParser(prog="jobhost", description="Serves, runs and watches batch jobs over batchctl script.")
     parser.add_argument("--version", action=ShowVersion, help="prints the versions of jobhost and of batchctl")
     subcommands = parser.add_subparsers(required=True, metavar="COMMAND")
-    for add in [ALONE[command]] if command in ALONE else [add_serve, add_worker, add_client, add_catalogue]:
+    for add in (ALONE[command],) if command in ALONE else ALL:
         if command not in subcommands.choices:
             add(subcommands)
     return parser

@@ -1,21 +1,18 @@
-"""The client's commands: start, restart, stop, abandon, purge, lose; and status, list, work, log, watch, which show."""
+"""The client's commands: start, restart, stop, abandon, purge, lose; and log, which shows as they do, without tables."""
 
 from __future__ import annotations
 
 import argparse
 import asyncio
+import shlex
 import sys
-from collections.abc import AsyncIterator, Awaitable, Callable
+from collections.abc import AsyncIterator, Awaitable, Callable, Mapping
 from typing import Any
 from urllib.parse import urlencode
 
-from rich.console import Console
-from rich.live import Live
-
 from job_host.commands.address import address_of
-from job_host.commands.terminal import execution_table, instance_table, operation_table, parameter_words, work_table
 from job_host.protocol.batch_statuses import UNFINISHED
-from job_host.protocol.bounds import PAGE_OF_LARGE_ROWS, PAGE_SIZE
+from job_host.protocol.bounds import PAGE_OF_LARGE_ROWS
 from job_host.protocol.client import Client, Refused, Unreachable
 from job_host.protocol.lines import fingerprint
 from job_host.protocol.printable import printable, printable_lines
@@ -33,6 +30,11 @@ def parameters_of(words: list[str]) -> dict[str, str]:
         if "=" not in word:
             raise ValueError(f"{word}: a parameter is written NAME=VALUE")
     return dict(word.split("=", 1) for word in words)
+
+
+def parameter_words(parameters: Mapping[str, str]) -> str:
+    """Parameters as a shell would read them, NAME=VALUE each."""
+    return printable(shlex.join(f"{name}={value}" for name, value in parameters.items())) or "none"
 
 
 async def rows_of(client: Client, path: str, size: int, **words: str) -> AsyncIterator[dict[str, Any]]:
@@ -111,57 +113,10 @@ async def lose(client: Client, given: argparse.Namespace) -> int:
     return 0
 
 
-async def status(client: Client, given: argparse.Namespace) -> int:
-    """Shows a job execution, and who did what to it. Of one that was purged the latter is left."""
-    path = f"/batch/jobexecutions/{given.execution}/operations"
-    operations = [one async for one in rows_of(client, path, PAGE_SIZE)]
-    try:
-        Console().print(execution_table(await execution_of(client, given.execution), given.utc))
-    finally:
-        Console().print(operation_table(operations, given.execution, given.utc))
-    return 0
-
-
-async def instances(client: Client, job: str | None, count: int) -> list[dict[str, Any]]:
-    given = {"page": "0", "pageSize": str(count), **({"jobName": job} if job else {})}
-    return list(await client.read(f"/batch/jobinstances?{urlencode(given)}"))
-
-
-async def list_instances(client: Client, given: argparse.Namespace) -> int:
-    Console().print(instance_table(await instances(client, given.job, given.count), given.utc))
-    return 0
-
-
-async def show_work(client: Client, given: argparse.Namespace) -> int:
-    told = [one async for one in rows_of(client, "/batch/work", PAGE_SIZE, withJobs="true")]
-    Console().print(work_table(told, given.utc) if told else "no work item is under way")
-    return 0
-
-
 async def show_log(client: Client, given: argparse.Namespace) -> int:
     async for log in logs_of(client, given.execution):
         sys.stdout.write(printable_lines(f"# work item {log['work']}, {log['stepName']}\n{log['log']}\n"))
     return 0
-
-
-async def watch(client: Client, given: argparse.Namespace) -> int:
-    """Shows a job execution until its end; without one, the newest job instances, until it is interrupted."""
-    if given.execution is None:
-        return await watch_all(client, given.utc)
-    with Live(console=Console(), refresh_per_second=4) as live:
-        while True:
-            told = await execution_of(client, given.execution)
-            live.update(execution_table(told, given.utc))
-            if told["batchStatus"] not in UNFINISHED:
-                return STATUS[told["batchStatus"]]
-            await asyncio.sleep(POLL)
-
-
-async def watch_all(client: Client, in_utc: bool) -> int:
-    with Live(console=Console(), refresh_per_second=4) as live:
-        while True:
-            live.update(instance_table(await instances(client, None, 20), in_utc))
-            await asyncio.sleep(POLL)
 
 
 def run(command: Command, given: argparse.Namespace) -> int:

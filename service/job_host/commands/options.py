@@ -4,7 +4,7 @@ from __future__ import annotations
 
 import argparse
 
-from job_host.commands import jobs, open_items
+from job_host.commands import jobs
 from job_host.commands.address import Subcommands, add_address
 from job_host.commands.jobs import Command
 
@@ -75,10 +75,12 @@ def add_changes(subcommands: Subcommands[argparse.ArgumentParser]) -> None:
 
 def add_lists(subcommands: Subcommands[argparse.ArgumentParser]) -> None:
     """Commands that show, and change nothing."""
-    parser = add_command(subcommands, "status", jobs.status, "shows a job execution")
+    from job_host.commands import open_items, shown
+
+    parser = add_command(subcommands, "status", shown.status, "shows a job execution")
     add_execution(parser)
     add_utc(parser)
-    parser = add_command(subcommands, "list", jobs.list_instances, "shows the newest job instances")
+    parser = add_command(subcommands, "list", shown.list_instances, "shows the newest job instances")
     add_count(parser)
     add_utc(parser)
     add_count(add_command(subcommands, "failed", open_items.failed, "says what failed, why, and how it is restarted"))
@@ -86,9 +88,9 @@ def add_lists(subcommands: Subcommands[argparse.ArgumentParser]) -> None:
     parser = add_command(subcommands, "open", open_items.open_items, told)
     add_count(parser)
     add_utc(parser)
-    add_utc(add_command(subcommands, "work", jobs.show_work, "shows which worker holds which work item since when"))
+    add_utc(add_command(subcommands, "work", shown.show_work, "shows which worker holds which work item since when"))
     add_execution(add_command(subcommands, "log", jobs.show_log, "shows the logs of a job execution's work items"))
-    parser = add_command(subcommands, "watch", jobs.watch, "shows a job execution until its end, or the newest job instances")
+    parser = add_command(subcommands, "watch", shown.watch, "shows a job execution until its end, or the newest job instances")
     execution = "the job execution's number (default: none, and the newest job instances are shown)"
     parser.add_argument("execution", type=int, nargs="?", metavar="EXECUTION", help=execution)
     add_utc(parser)
@@ -97,8 +99,3 @@ def add_lists(subcommands: Subcommands[argparse.ArgumentParser]) -> None:
 def add_count(parser: argparse.ArgumentParser) -> None:
     parser.add_argument("--job", metavar="JOB", help="shows job instances of this job alone (default: of all jobs)")
     parser.add_argument("--count", type=positive, default=50, help="how many are shown at most (default: %(default)s)")
-
-
-def add_commands(subcommands: Subcommands[argparse.ArgumentParser]) -> None:
-    add_changes(subcommands)
-    add_lists(subcommands)

@@ -2,7 +2,6 @@
 
 from __future__ import annotations
 
-import shlex
 from collections.abc import Mapping, Sequence
 from datetime import datetime, timezone
 from typing import Any
@@ -16,11 +15,6 @@ from job_host.protocol.printable import printable, printable_lines
 COLOURS = {"COMPLETED": "green", "FAILED": "red", "STOPPED": "yellow", "ABANDONED": "magenta"}
 
 Told = Mapping[str, Any]
-
-
-def parameter_words(parameters: Mapping[str, str]) -> str:
-    """Parameters as a shell would read them, NAME=VALUE each."""
-    return printable(shlex.join(f"{name}={value}" for name, value in parameters.items())) or "none"
 
 
 def plain(text: Any) -> Text:

@@ -14,7 +14,7 @@ from contextlib import suppress
 from typing import TypeVar
 
 from job_host.catalogue import growth, jobs
-from job_host.catalogue.check import NoVerdict
+from job_host.catalogue.faults import NoVerdict
 from job_host.service.history import log_file
 from job_host.service.history.coprocess import CatalogueRefused, CoProcess, CoProcessEnded
 from job_host.service.history.engine import Engine

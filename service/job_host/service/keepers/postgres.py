@@ -13,7 +13,7 @@ from contextlib import suppress
 from typing import TypeVar
 
 from job_host.catalogue import growth, jobs
-from job_host.catalogue.check import NoVerdict
+from job_host.catalogue.faults import NoVerdict
 from job_host.service.history.coprocess import CoProcess, CoProcessEnded
 from job_host.service.history.engine import Engine, ReplayDiffers
 from job_host.service.keepers.keeper import Fatal, Keeper, check_catalogue, first_of, needed
