@@ -19,6 +19,8 @@ NOT_SWALLOWED = black_hole.why_not_swallowed()
 pytestmark = pytest.mark.skipif(NOT_SWALLOWED is not None, reason=str(NOT_SWALLOWED))
 EMBEDDED = ["worker", "black-hole", "store", "grandchild", "silent", "folder", "hung-batchctl", "late"]
 POSTGRES = ["absent", "connections", "pipelining", "hung-postgres", "batchctl", "cut-off", "postgres", "worker"]
+# Enough for calls in hand at each fault. More take the processor from the other tests.
+CLIENTS, WORKERS = 3, 2
 
 
 @dataclass(frozen=True)
@@ -47,10 +49,10 @@ class Soaked:
 
 def soaked(mode: str, folder: Path, names: Sequence[str]) -> Soaked:
     folder.mkdir(exist_ok=True)
-    parts = Parts(mode, folder)
+    parts = Parts(mode, folder, worker_count=WORKERS)
     try:
         parts.prepare()
-        seen, made = asyncio.run(soak(parts, Plan(len(names), 1), names))
+        seen, made = asyncio.run(soak(parts, Plan(len(names), 1, clients=CLIENTS), names))
         assert sorted(made.elements()) == sorted(names)
         return Soaked(parts, asyncio.run(operations_of(parts)), seen)
     finally:
@@ -151,10 +153,10 @@ def test_a_run_that_may_not_be_is_refused(embedded_soak: Soaked, notes: Path, na
 
 
 def test_a_refused_key_makes_an_operation_only_after_a_store_was_lost(embedded_soak: Soaked) -> None:
-    seen, operations = embedded_soak.seen, embedded_soak.operations
+    seen, operations, stores = embedded_soak.seen, embedded_soak.operations, embedded_soak.parts.stores_lost
     call = next(call for call in seen.calls if call.status < 400)
     refused = replace(call, status=404, told={"title": "NoSuchJobExecutionException"}, operations=call.operations - 1)
     others = Seen([refused, *(one for one in seen.calls if one.key != call.key)], [])
     with pytest.raises(Wrong, match="was refused, and is in the history"):
-        check_calls(operations, others, Lost([call.operations], 8))
-    check_calls(operations, others, Lost([call.operations - 1], 8))
+        check_calls(operations, others, Lost([*stores, call.operations], 8))
+    check_calls(operations, others, Lost([*stores, call.operations - 1], 8))
