@@ -7,9 +7,14 @@ use Rattle.batch_history.specs.declared.call.Call.{Call}
 use Rattle.batch_history.specs.declared.call.Entry.{Entry}
 use Rattle.batch_history.specs.declared.call.Reply.{Reply}
 
--- the most operations that a repository accepts
+-- the most operations that a script without a log, or an operator, accepts
 abbrev pub most_operations : ℕ
 most_operations = 1000000
+
+-- the most operations that any repository accepts. Each gives at most one number to a job instance, a job
+-- execution and a work item
+abbrev pub most_numbered : ℕ
+most_numbered = 4294967296
 
 -- the operations of a session, in their order
 abbrev pub entries_by : ℕ → List Entry → List Entry

@@ -18,3 +18,4 @@ pub mod StepMoments
 pub mod StepOutcomes
 pub mod StepAnswers
 pub mod Wider
+pub mod SameRows

@@ -5,6 +5,7 @@
 mod growth;
 mod law;
 mod partitions;
+mod same_rows;
 
 pub use growth::legal_histories_stay_legal_over_more_jobs;
 pub use law::{
@@ -21,3 +22,4 @@ pub use partitions::{
     partitioned_steps_have_the_outcome_of_the_walk,
     partitions_are_kept_until_a_job_execution_is_done,
 };
+pub use same_rows::histories_with_the_same_rows_are_answered_alike;

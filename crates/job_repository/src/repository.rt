@@ -1,7 +1,7 @@
 ghost use Rattle.std.specs.Prelude.{◌≡◌, ◌≤◌, [], ℕ, List, IfOk, IsOk, OnErr, OnOk, Ok, length};
 ghost use Rattle.batch_history.specs.Answers.{answer};
 ghost use Rattle.batch_history.specs.Due.{IsDue};
-ghost use Rattle.batch_history.specs.Legal.{IsLegal, after_call, grown};
+ghost use Rattle.batch_history.specs.Legal.{IsLegal, after_call, grown, most_numbered};
 ghost use Rattle.batch_history.specs.Replies.{reply};
 ghost use Rattle.batch_history.specs.Rows.{History, history};
 ghost use Rattle.jsl_model.specs.Jobs.{JobTree};
@@ -23,14 +23,14 @@ pub trait JobRepository: Drop {
     /// The most operations that it accepts.
     ghost limit: { ℕ };
 
-    /// Creates a repository without operations over this catalogue. The limit is at most 1,000,000.
-    /// All memory that the repository takes later comes from `alloc`.
+    /// Creates a repository without operations over this catalogue. The limit is at most
+    /// 4,294,967,296. All memory that the repository takes later comes from `alloc`.
     ///
     /// # Errors
     ///
     /// None: an empty repository takes no memory.
     fn new(alloc: Global, catalogue: Catalogue) -> Result<Self, OutOfMemory>
-        requires { limit ≤ 1000000 }
+        requires { limit ≤ most_numbered }
         ensures stands { IfOk result (λ made. stands made (history catalogue [])) }
         ensures made { IsOk result };
 

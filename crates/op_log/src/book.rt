@@ -2,7 +2,7 @@ ghost use Rattle.std.specs.Prelude.{◌≡◌, ◌≤◌, ◌<◌, ◌-◌, [], 
 ghost use Rattle.std.specs.Option.{option_copied};
 ghost use Rattle.batch_history.specs.Answers.{answer};
 ghost use Rattle.batch_history.specs.Due.{IsDue};
-ghost use Rattle.batch_history.specs.Legal.{after_call, grown, IsLegal};
+ghost use Rattle.batch_history.specs.Legal.{after_call, grown, most_numbered, IsLegal};
 ghost use Rattle.batch_history.specs.Replies.{is_nothing, reply};
 ghost use Rattle.batch_history.specs.Rows.{History};
 ghost use Rattle.op_log.specs.Replied.{replied};
@@ -43,14 +43,14 @@ impl<J: JobRepository> Model for Book<J> {
 impl<J: JobRepository> Book<J> {
     /// Creates a book with an empty log over this catalogue.
     ///
-    /// The repository's limit is at most 1,000,000. All memory that the book takes later comes from
-    /// `alloc`.
+    /// The repository's limit is at most 4,294,967,296. All memory that the book takes later comes
+    /// from `alloc`.
     ///
     /// # Errors
     ///
     /// None today: an empty book takes no memory.
     pub fn new(alloc: Global, catalogue: Catalogue) -> Result<Book<J>, OutOfMemory>
-        requires { J.limit ≤ 1000000 }
+        requires { J.limit ≤ most_numbered }
         ensures { result ≡ Ok record { catalogue = catalogue; log = [] } }
     {
         let repository = J::new(alloc, catalogue)?;

@@ -1,8 +1,8 @@
 -- Checkpoints that stand in a list for each job instance, as one list.
 use Rattle.std.proofs.Common.{◌≡◌, ◌≢◌, ℕ, ◌==◌, ◌&&◌, Bool, true, false, not, cond, Option, None, Some, length, List, [], ◌∷◌, ◌++◌, find, filter, refl, sym, ◌∙◌, ap, subst, arith}
-use Rattle.std.specs.List.{AllByRecursion}
+use Rattle.std.specs.List.{AllByRecursion, flat_map}
 use Rattle.std.specs.List.Sorted.{IsStrictlySortedBy}
-use Rattle.std.specs.Map.{keys_of, lookup, set_value, remove_entry}
+use Rattle.std.specs.Map.{keys_of, lookup, set_value, remove_entry, values_of}
 use Rattle.std.specs.BTreeMap.{is_at, insert_entry}
 use Rattle.std.specs.Option.{option_map}
 use Rattle.std.specs.Bool.{nat_lt}
@@ -355,3 +355,8 @@ none_gone i (row ∷ rest) none =
       | true ↦ λ some. cc
       | false ↦ λ later. ap (λ l. row ∷ l) (none_gone i rest later)
     ]) none
+
+-- all checkpoints, list by list
+pub values_listed : {X : Type 0} (rows : X → List CheckpointRow) (lists : List (ℕ × X)) → flat_map rows (values_of lists) ≡ rows_listed rows lists
+values_listed rows [] = refl
+values_listed rows (e ∷ rest) = ap (λ (l : List CheckpointRow). rows e.1 ++ l) (values_listed rows rest)

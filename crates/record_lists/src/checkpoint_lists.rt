@@ -1,4 +1,4 @@
-ghost use Rattle.std.specs.Prelude.{ℕ, ◌≡◌, ◌==◌, [], List, None, Some, filter, option_copied, slice_set, IfNone, IfSome, OnErr, OnOk, length, ◌<◌, ◌++◌, ◌∷◌};
+ghost use Rattle.std.specs.Prelude.{ℕ, ◌≡◌, ◌==◌, [], List, None, Some, filter, map, option_copied, slice_set, IfNone, IfOk, IfSome, OnErr, OnOk, length, ◌<◌, ◌++◌, ◌∷◌};
 ghost use Rattle.record_lists.specs.Places.{is_place, mark_at, checkpoints_there, AreApart};
 ghost use Rattle.record_lists.specs.Placed.{is_elsewhere, with_mark, without_mark, SetsMark};
 
@@ -64,6 +64,21 @@ impl CheckpointLists {
         None
     }
 
+    /// Returns all checkpoints, in ascending order of the numbers of their job instances.
+    ///
+    /// # Errors
+    ///
+    /// Returns `OutOfMemory` if memory is refused.
+    pub fn rows(&self) -> Result<Vec<&CheckpointRow>, OutOfMemory>
+        ensures { IfOk result (λ found. map (λ row. row.now) found.items ≡ self.now) }
+    {
+        let mut found = Vec::new(self.alloc);
+        for rows in self.lists.values() {
+            add_rows(&mut found, rows.as_slice())?;
+        }
+        Ok(found)
+    }
+
     /// Sets the checkpoint of a step, or of a partition of the step. It replaces the checkpoint that
     /// the step has, if any.
     ///
@@ -115,6 +130,20 @@ impl CheckpointLists {
     {
         self.lists.remove(&i.value());
     }
+}
+
+/// Appends these checkpoints.
+fn add_rows<'r>(
+    found: &mut Vec<&'r CheckpointRow>,
+    rows: &'r [CheckpointRow],
+) -> Result<(), OutOfMemory>
+    ensures { OnOk result (map (λ row. row.now) found.new.items
+        ≡ map (λ row. row.now) found.old.items ++ rows.now) }
+{
+    for row in rows {
+        found.push(row)?;
+    }
+    Ok(())
 }
 
 /// Sets a checkpoint in the list of its job instance.

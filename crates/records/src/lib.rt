@@ -1,6 +1,7 @@
 //! The rows of a job repository: job instances, job executions, work items and checkpoints.
 #![tactic(auto)]
 
+mod index_rows;
 mod number_lists;
 mod readers;
 mod records;
@@ -12,3 +13,4 @@ mod step_lists;
 pub use readers::{ExecutionsOf, InstancesOf, Names, WorksOf};
 pub use record_lists::NameLists;
 pub use records::Records;
+pub use row_list::RowsLeft;

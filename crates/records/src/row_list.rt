@@ -232,13 +232,14 @@ fn searched_place<T>(slots: &[Slot<T>], number: u64) -> Option<usize>
     slots.binary_search_by_key(&number, |slot| slot.number).ok()
 }
 
-/// Returns the position of the slot with this number if the slots up to it have the numbers 1, 2, 3
-/// and so on. That is the usual case. After `None`, the slot may still exist.
+/// Returns the position of the slot with this number if the slots up to it have successive numbers.
+/// That is the usual case. After `None`, the slot may still exist.
 fn gapless_place<T>(slots: &[Slot<T>], number: u64) -> Option<usize>
     ensures { AreRising (slot_numbers slots.now) → IfSome result (λ place.
         position (λ (slot : OneSlot T). slot.number == number) slots.now ≡ Some place) }
 {
-    let place = number.checked_sub(1)? as usize;
+    let first = slots.first()?;
+    let place = number.checked_sub(first.number)? as usize;
     let slot = slots.get(place)?;
     if slot.number == number {
         Some(place)

@@ -2,6 +2,7 @@
 ghost use Rattle.std.specs.Prelude.{◌≡◌, ◌≤◌, [], find, IfOk};
 ghost use Rattle.std.specs.Option.{option_copied};
 ghost use Rattle.batch_history.specs.Due.{IsDue};
+ghost use Rattle.batch_history.specs.Legal.{most_numbered};
 ghost use Rattle.batch_history.specs.Replies.{is_execution, reply_by, accepted, claim_reply, reply_to_stop, reply_to_abandon, reply_to_checkpoint, reply_to_finish, reply_to_loss, reply_to_purge, stop_requested_of, report_refusal, reply_to_kept_checkpoint, reply_to_stopped_step, reply_to_stopped_work, reply_to_end, next_work_item, partition_named, partitions_of_job, work_task, runnable_of_job};
 ghost use Rattle.batch_history.specs.Walks.{job_named};
 ghost use Rattle.batch_history.specs.Works.{is_work};
@@ -163,7 +164,7 @@ impl<const LIMIT: u64> Standing<'_, LIMIT> {
     /// - `JobStartException`: the catalogue has no such job;
     /// - `RepositoryFull`: `LIMIT` operations were accepted.
     pub fn reply_to_start(&self, job: &T256) -> Result<Reply, Refusal>
-        requires { self.now.last.execution ≤ 1000000 }
+        requires { self.now.last.execution ≤ most_numbered }
         ensures { result ≡ reply_by LIMIT (rows_at self.now) 0 (Call.Start job.now []) }
     {
         if self.catalogue.job(job.as_str()).is_none() {
@@ -181,7 +182,7 @@ impl<const LIMIT: u64> Standing<'_, LIMIT> {
     /// That of `restart_refusal`, then `RepositoryFull` if `LIMIT` operations were accepted.
     pub fn reply_to_restart(&self, x: ExecutionId) -> Result<Reply, Refusal>
         requires placed { IsPlaced self.now.catalogue.now self.now.records.now.executions x }
-        requires room { self.now.last.execution ≤ 1000000 }
+        requires room { self.now.last.execution ≤ most_numbered }
         ensures { result ≡ reply_by LIMIT (rows_at self.now) 0 (Call.Restart x []) }
     {
         if let Some(refusal) = restart_refusal(self.records, self.catalogue, x) {
@@ -263,7 +264,7 @@ impl<const LIMIT: u64> Standing<'_, LIMIT> {
 
     /// Returns the next work item, with this work key of a job execution.
     fn item_of(&self, row: &ExecutionRow, key: &WorkKey) -> Result<WorkItem, OutOfMemory>
-        requires { self.now.last.work ≤ 1000000 }
+        requires { self.now.last.work ≤ most_numbered }
         ensures { IfOk result (λ item. item ≡ next_work_item (rows_at self.now) row.now key.now) }
     {
         let mark = self.records.checkpoint(row.instance, key);
@@ -291,7 +292,7 @@ impl<const LIMIT: u64> Standing<'_, LIMIT> {
         row: &ExecutionRow,
         key: &Option<WorkKey>,
     ) -> Result<Reply, OutOfMemory>
-        requires { self.now.last.work ≤ 1000000 }
+        requires { self.now.last.work ≤ most_numbered }
         ensures { IfOk result (λ reply. reply ≡ claim_reply (rows_at self.now) row.now key.now) }
     {
         match key {

@@ -8,7 +8,7 @@ use std::alloc::Global;
 /// It is its catalogue, its rows, how many operations it accepted, and the last numbers that these
 /// gave.
 ///
-/// A reply that gives a number requires the last one to be at most 1,000,000. The reply to a
+/// A reply that gives a number requires the last one to be at most 4,294,967,296. The reply to a
 /// restart requires that the walk of its job execution begins in its job. A repository ensures
 /// both.
 #[derive(Clone, Copy, Debug)]

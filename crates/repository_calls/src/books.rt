@@ -1,5 +1,6 @@
 //! Books and repositories.
 ghost use Rattle.std.specs.Prelude.{◌≤◌};
+ghost use Rattle.batch_history.specs.Legal.{most_numbered};
 
 use anyhow::{Result, bail};
 use batch_ids::Moment;
@@ -154,7 +155,7 @@ pub fn run_book<J: JobRepository + Debug, R: Wait + Print + AllocGlobal>(
     rt: &R,
     script: Script<'_>,
 ) -> Result<bool>
-    requires { J.limit ≤ 1000000 }
+    requires { J.limit ≤ most_numbered }
 {
     let catalogue = read_catalogue(rt.alloc(), script.first.text.as_bytes())?;
     script.first.mark(rt.alloc());
@@ -177,7 +178,7 @@ pub fn run_repository<J: JobRepository + Debug, R: Wait + Print + AllocGlobal>(
     rt: &R,
     script: Script<'_>,
 ) -> Result<bool>
-    requires { J.limit ≤ 1000000 }
+    requires { J.limit ≤ most_numbered }
 {
     let catalogue = read_catalogue(rt.alloc(), script.first.text.as_bytes())?;
     script.first.mark(rt.alloc());

@@ -1,7 +1,7 @@
 ghost use Rattle.std.specs.Prelude.{◌≡◌, ◌≤◌, [], length, Err, IfOk, box_value};
 ghost use Rattle.script_lines.specs.declared.input_buffer.TheConstants.{MAX_READS};
 ghost use Rattle.script_engine.specs.declared.fault.EngineFault.TheVariants.{Read};
-ghost use Rattle.batch_history.specs.Legal.{most_operations};
+ghost use Rattle.batch_history.specs.Legal.{most_numbered, most_operations};
 ghost use Rattle.script_engine.specs.Script.{begin};
 ghost use Rattle.script_engine.specs.InTurn.{MayReadInTurn};
 ghost use Rattle.script_engine.specs.Ran.{Ran, RanInMemory, RanSoFar, HoldsReplies, has_writer_failed};
@@ -26,7 +26,7 @@ pub fn boxed_repository<J: JobRepository>(
     alloc: Global,
     catalogue: Catalogue,
 ) -> Result<Box<J>, OutOfMemory>
-    requires { J.limit ≤ 1000000 }
+    requires { J.limit ≤ most_numbered }
     ensures { IfOk result (λ repository. J.stands (box_value repository) (begin catalogue)) }
 {
     match Box::new(alloc, J::new(alloc, catalogue)?) {

@@ -22,3 +22,5 @@ pub mod Settled
 pub mod Crossing
 mod JobCrossing
 mod RowsCrossing
+pub mod RowsAdded
+pub mod Gathering

@@ -6,6 +6,7 @@ use Rattle.batch_ids.specs.Metrics.{added, both_metrics, sum_of_metrics, zero_me
 use Rattle.batch_history.specs.declared.rows.WorkRow.{WorkRow}
 use Rattle.std.proofs.lemmas.List.{drop_more}
 use Rattle.std.specs.Str.{bytes_eq}
+use Rattle.batch_history.specs.Legal.{most_numbered}
 use Rattle.batch_history.specs.Lists.{change_first}
 use Rattle.batch_history.specs.StepExecutions.{same_step}
 use Rattle.records.specs.Left.{works_of}
@@ -129,15 +130,15 @@ within_put count p works row new step found is s w =
     }
 
 -- so many operations leave room for the sums of all that is reported
-pub within_limit : (limit count : ℕ) (works : List WorkRow) → limit ≤ 1000000 → count ≤ limit → AreWithin (most_after count) works → AreWithin (most_after 1000000) works
+pub within_limit : (limit count : ℕ) (works : List WorkRow) → limit ≤ most_numbered → count ≤ limit → AreWithin (most_after count) works → AreWithin (most_after most_numbered) works
 within_limit limit count works few le w =
-    within-more (most_after count) (most_after 1000000) (sum_of_metrics (map (λ row. row.metrics) works)) (omega (arith, few, le)) w
+    within-more (most_after count) (most_after most_numbered) (sum_of_metrics (map (λ row. row.metrics) works)) (omega (arith, few, le)) w
 
 -- the counts of a work item that is found have room for more
 pub within_found : (limit count : ℕ) (p : WorkRow → Bool) (works : List WorkRow) (row : WorkRow)
-    → limit ≤ 1000000 → count ≤ limit → find p works ≡ Some row → AreWithin (most_after count) works → IsWithin (most_after 1000000) row.metrics
+    → limit ≤ most_numbered → count ≤ limit → find p works ≡ Some row → AreWithin (most_after count) works → IsWithin (most_after most_numbered) row.metrics
 within_found limit count p works row few le found w =
-    let all : AreWithin (most_after 1000000) works = within_limit limit count works few le w in
+    let all : AreWithin (most_after most_numbered) works = within_limit limit count works few le w in
     record {
       read = omega (arith, all.read, total-found (λ m. m.read_count) p works row record { sums = λ a b. refl; none = refl } found);
       write = omega (arith, all.write, total-found (λ m. m.write_count) p works row record { sums = λ a b. refl; none = refl } found);
@@ -169,7 +170,7 @@ pub both_none : (a : Metrics) → both_metrics a zero_metrics ≡ a
 both_none a = search arith
 
 -- parts of what is within bounds have room for one another
-pub room_within : (one other rest : Metrics) (works : List WorkRow) → AreWithin (most_after 1000000) works
+pub room_within : (one other rest : Metrics) (works : List WorkRow) → AreWithin (most_after most_numbered) works
     → both_metrics one (both_metrics other rest) ≡ sum_of_metrics (map (λ row. row.metrics) works) → HaveRoom one other
 room_within one other rest works w is =
     record {
@@ -185,7 +186,7 @@ room_within one other rest works w is =
 
 -- the next of the work items has room beside those before it, and with them comes to what the rest leaves
 pub room_at : {A : Type 0} (f : A → WorkRow) (items : List A) (i : ℕ) (row : A) (sum : Metrics) → i < length items → row ≡ get_or items i row
-    → AreWithin (most_after 1000000) (map f items)
+    → AreWithin (most_after most_numbered) (map f items)
     → both_metrics sum (sum_of_metrics (map (λ row. row.metrics) (map f (drop i items)))) ≡ sum_of_metrics (map (λ row. row.metrics) (map f items))
     → HaveRoom sum (f row).metrics
 room_at f items i row sum lt is w so_far =

@@ -4,7 +4,7 @@ use Rattle.std.specs.BTreeMap.{BTreeMap}
 use Rattle.batch_ids.specs.Metrics.{most_after}
 use Rattle.jsl_model.specs.Jobs.{JobTree}
 use Rattle.batch_history.specs.Works.{AllApart}
-use Rattle.batch_history.specs.Legal.{IsLegal, grown}
+use Rattle.batch_history.specs.Legal.{IsLegal, grown, most_numbered}
 use Rattle.batch_history.specs.Rows.{History, Rows, rows}
 use Rattle.batch_history.specs.declared.call.Entry.{Entry}
 use Rattle.batch_history.specs.declared.rows.LastNumbers.{LastNumbers}
@@ -38,7 +38,7 @@ pub record AreLast (last : LastNumbers) (maps : Maps) : Type 0 where
 -- the invariant of a repository of at most `limit` operations. An operation gives at most one number of each
 -- kind. The counts of work items fit. Each walk begins at an element of its job's own list.
 pub record IsSound (limit : ℕ) (kept : Kept) : Type 0 where
-  pub few : limit ≤ 1000000
+  pub few : limit ≤ most_numbered
   pub room : kept.count ≤ limit
   pub last : AreLast kept.last kept.records
   pub instance : kept.last.instance ≤ kept.count

@@ -2,6 +2,7 @@
 ghost use Rattle.std.specs.Prelude.{◌≡◌, IfOk};
 ghost use Rattle.std.specs.Option.{option_copied};
 ghost use Rattle.batch_ids.specs.Metrics.{IsWithin, most_after};
+ghost use Rattle.batch_history.specs.Legal.{most_numbered};
 ghost use Rattle.batch_history.specs.NextRows.{over_as, reported};
 ghost use Rattle.seq_repository.specs.Metered.{IsStep};
 ghost use Rattle.seq_repository.specs.Reports.{IsAfter};
@@ -67,7 +68,7 @@ pub(crate) fn after_checkpoint(
     cursor: &Option<Cursor>,
     at: Moment,
 ) -> Result<Reported, OutOfMemory>
-    requires { IsWithin (most_after 1000000) work.now.metrics }
+    requires { IsWithin (most_after most_numbered) work.now.metrics }
     ensures work { IfOk result (λ new. new.work ≡ reported step work.now) }
     ensures small { IfOk result (λ _. IsStep step) }
     ensures after { IfOk result (λ new. IsAfter (option_copied owner.entry) at new.work new.after cursor.now) }
@@ -90,7 +91,7 @@ pub(crate) fn after_end(
     end: End,
     cursor: &Option<Cursor>,
 ) -> Result<Reported, OutOfMemory>
-    requires { IsWithin (most_after 1000000) work.now.metrics }
+    requires { IsWithin (most_after most_numbered) work.now.metrics }
     ensures work { IfOk result (λ new. new.work ≡ over_as end.outcome end.exit end.step end.at end.number work.now) }
     ensures small { IfOk result (λ _. IsStep end.step) }
     ensures after { IfOk result (λ new. IsAfter (option_copied owner.entry) end.at new.work new.after cursor.now) }

@@ -2,6 +2,7 @@ ghost use Rattle.std.specs.Prelude.{◌≡◌, ◌≤◌, ◌==◌, Ok, Err, Som
 ghost use Rattle.std.specs.List.{list_any};
 ghost use Rattle.jsl_model.specs.Names.{distinct};
 ghost use Rattle.batch_ids.specs.Metrics.{most_after};
+ghost use Rattle.batch_history.specs.Legal.{most_numbered};
 ghost use Rattle.batch_history.specs.declared.query.Answer.{Answer};
 ghost use Rattle.batch_history.specs.Answers.{instances_of_job, page, running_executions, records_of, if_job_known, if_execution_known, answer_by};
 ghost use Rattle.batch_history.specs.Due.{IsDue};
@@ -24,7 +25,7 @@ pub(crate) fn answer(
     rows: &Records,
     query: &Query,
 ) -> Result<Answer, Refusal>
-    requires { AreWithin (most_after 1000000) rows.now.works }
+    requires { AreWithin (most_after most_numbered) rows.now.works }
     ensures { (r : Rows) → r.catalogue ≡ catalogue.now → r.instances ≡ rows.now.instances → r.executions ≡ rows.now.executions
         → r.works ≡ rows.now.works
         → IsDue result (answer_by r query.now) }

@@ -1,9 +1,8 @@
-ghost use Rattle.std.specs.Prelude.{ℕ, ◌≡◌, ◌<◌, ◌+◌, [], ◌∷◌, ◌++◌, true, false, find, Option, is_some, IfOk, IfSome, OnOk, OnErr, List, Ok, if◌then◌else◌};
+ghost use Rattle.std.specs.Prelude.{ℕ, ◌≡◌, ◌<◌, ◌+◌, [], ◌∷◌, ◌++◌, true, false, find, Option, is_some, IfOk, IfSome, OnOk, OnErr, List, Ok};
 ghost use Rattle.std.specs.List.{list_any};
 ghost use Rattle.std.specs.Option.{option_copied, option_map};
 ghost use Rattle.batch_history.specs.declared.rows.ExecutionRow.{ExecutionRow as Row};
 ghost use Rattle.batch_history.specs.declared.rows.WorkRow.{WorkRow as Work};
-ghost use Rattle.batch_history.specs.Due.{IsDue};
 ghost use Rattle.batch_history.specs.Lists.{change_first};
 ghost use Rattle.batch_history.specs.Replies.{is_execution, is_running_in, reply_by, is_nothing};
 ghost use Rattle.batch_history.specs.Walks.{job_named};
@@ -24,8 +23,8 @@ use crate::rows::Change;
 use crate::{adding, agenda, cursors, rows};
 use batch_history::{Call, ExecutionRow, JobInstance, Reply, WorkItem};
 use batch_ids::{
-    ExecutionId, InstanceId, MetricStep, Moment, OutOfMemory, Parameters, Refusal, T256, Text,
-    WorkId, WorkOutcome,
+    ExecutionId, InstanceId, MetricStep, Moment, OutOfMemory, Parameters, T256, Text, WorkId,
+    WorkOutcome,
 };
 use job_walk::Cursor;
 use records::Records;
@@ -557,37 +556,6 @@ impl<const LIMIT: u64> Repository<LIMIT> {
             Call::Purge { instance } => {
                 self.enter_purge(*instance);
                 Ok(())
-            }
-        }
-    }
-
-    /// Returns the reply to a call, and enters the call if it is accepted.
-    #[tactic(auto, using(crate::proofs::Replying::accepted_room))]
-    pub(crate) fn decide_and_enter(
-        &mut self,
-        who: u64,
-        call: &Call,
-        at: Moment,
-    ) -> Result<Reply, Refusal>
-        ensures due { IsDue result (reply_by LIMIT (rows_in self.old) who call.now) }
-        ensures rows { IfOk result (λ reply. rows_in self.new
-            ≡ (if is_nothing reply then rows_in self.old else rows_after (rows_in self.old) record {
-              who = who;
-              call = call.now;
-              at = at;
-              reply = reply;
-            })) }
-        ensures refused { OnErr result (self.new ≡ self.old) }
-    {
-        let reply = self.reply(who, call)?;
-        if reply.is_nothing() {
-            return Ok(reply);
-        }
-        match self.enter_call(who, call, at, &reply) {
-            Ok(()) => Ok(reply),
-            Err(error) => {
-                drop(reply);
-                Err(error.into())
             }
         }
     }

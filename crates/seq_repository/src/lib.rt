@@ -11,6 +11,9 @@ mod cursors;
 mod entering;
 mod replies;
 mod repository;
+mod restored;
+mod restoring;
+mod row_fault;
 mod rows;
 mod search;
 mod steps;
@@ -20,3 +23,5 @@ pub use batch_history::{
     WorkItem, WorkKind, WorkTask,
 };
 pub use repository::Repository;
+pub use restored::Restored;
+pub use row_fault::RowFault;

@@ -1,5 +1,6 @@
 ghost use Rattle.std.specs.Prelude.{◌≡◌, ◌≤◌};
 ghost use Rattle.batch_history.specs.Due.{IsDue};
+ghost use Rattle.batch_history.specs.Legal.{most_numbered};
 ghost use Rattle.batch_history.specs.Replies.{reply_by};
 ghost use Rattle.reply_rules.specs.Standings.{rows_at};
 ghost use Rattle.restart_rules.specs.Placed.{ArePlaced};
@@ -15,8 +16,8 @@ impl<const LIMIT: u64> Repository<LIMIT> {
     /// Returns the state from which its calls are replied to.
     fn standing(&self) -> Standing<'_, LIMIT>
         ensures rows { rows_at result ≡ rows_in self.now }
-        ensures executions { result.last.execution ≤ 1000000 }
-        ensures works { result.last.work ≤ 1000000 }
+        ensures executions { result.last.execution ≤ most_numbered }
+        ensures works { result.last.work ≤ most_numbered }
         ensures placed { ArePlaced result.catalogue.now result.records.now.executions }
     {
         Standing {

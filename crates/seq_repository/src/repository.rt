@@ -1,10 +1,11 @@
-ghost use Rattle.std.specs.Prelude.{◌≡◌, ◌≤◌, [], IfOk, IsOk, OnErr, OnOk, Ok};
+ghost use Rattle.std.specs.Prelude.{◌≡◌, ◌≤◌, [], IfOk, IsOk, OnErr, OnOk, Ok, if◌then◌else◌};
 ghost use Rattle.batch_history.specs.Answers.{answer};
 ghost use Rattle.batch_history.specs.Due.{IsDue};
-ghost use Rattle.batch_history.specs.Legal.{IsLegal, after_call, grown};
-ghost use Rattle.batch_history.specs.Replies.{reply};
+ghost use Rattle.batch_history.specs.Legal.{IsLegal, after_call, grown, most_numbered};
+ghost use Rattle.batch_history.specs.NextRows.{rows_after};
+ghost use Rattle.batch_history.specs.Replies.{is_nothing, reply, reply_by};
 ghost use Rattle.batch_history.specs.Rows.{History};
-ghost use Rattle.seq_repository.specs.Kept.{IsNext, StandsFor};
+ghost use Rattle.seq_repository.specs.Kept.{IsNext, StandsFor, rows_in};
 
 use crate::answers;
 use crate::cursors::{KeptCursors, Slot};
@@ -71,13 +72,14 @@ impl<const LIMIT: u64> Model for Repository<LIMIT> {
 impl<const LIMIT: u64> Repository<LIMIT> {
     /// Creates a repository without operations. It represents the empty history over its catalogue.
     ///
-    /// `LIMIT` is at most 1,000,000. All memory that the repository takes later comes from `alloc`.
+    /// `LIMIT` is at most 4,294,967,296. All memory that the repository takes later comes from
+    /// `alloc`.
     ///
     /// # Errors
     ///
     /// None today: an empty repository takes no memory.
     pub fn new(alloc: Global, catalogue: Catalogue) -> Result<Repository<LIMIT>, OutOfMemory>
-        requires { LIMIT ≤ 1000000 }
+        requires { LIMIT ≤ most_numbered }
         ensures stands { IfOk result (λ made. StandsFor made
             record { catalogue = catalogue; log = [] }) }
         ensures made { IsOk result }
@@ -136,7 +138,39 @@ impl<const LIMIT: u64> Repository<LIMIT> {
             → IfOk result (λ reply. StandsFor self.new (after_call h who call.now at reply)) }
         ensures refused { OnErr result (self.new ≡ self.old) }
     {
-        self.decide_and_enter(who, call, at)
+        self.act_by_rows(who, call, at)
+    }
+
+    /// Returns the reply to a call of the session `who` at this moment, and enters the call if it
+    /// is accepted, as `apply` does. Contracts say what that does to the rows, and not to a history
+    /// that they come from.
+    ///
+    /// # Errors
+    ///
+    /// As those of `apply`. A refused call changes nothing.
+    #[tactic(auto, using(crate::proofs::Replying::accepted_room))]
+    pub fn act_by_rows(&mut self, who: u64, call: &Call, at: Moment) -> Result<Reply, Refusal>
+        ensures due { IsDue result (reply_by LIMIT (rows_in self.old) who call.now) }
+        ensures rows { IfOk result (λ reply. rows_in self.new
+            ≡ (if is_nothing reply then rows_in self.old else rows_after (rows_in self.old) record {
+              who = who;
+              call = call.now;
+              at = at;
+              reply = reply;
+            })) }
+        ensures refused { OnErr result (self.new ≡ self.old) }
+    {
+        let reply = self.reply(who, call)?;
+        if reply.is_nothing() {
+            return Ok(reply);
+        }
+        match self.enter_call(who, call, at, &reply) {
+            Ok(()) => Ok(reply),
+            Err(error) => {
+                drop(reply);
+                Err(error.into())
+            }
+        }
     }
 
     /// Enters an operation that was accepted after the operations before it. It decides nothing

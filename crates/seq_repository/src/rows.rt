@@ -2,6 +2,7 @@ ghost use Rattle.std.specs.Prelude.{◌≡◌, IfOk};
 ghost use Rattle.batch_ids.specs.Metrics.{added};
 ghost use Rattle.batch_ids.specs.Metrics.{IsWithin, most_after};
 ghost use Rattle.seq_repository.specs.Metered.{IsStep};
+ghost use Rattle.batch_history.specs.Legal.{most_numbered};
 ghost use Rattle.batch_history.specs.NextRows.{reported, over_as, fresh_row, renewed, refreshed};
 ghost use Rattle.batch_history.specs.Works.{busy_work};
 ghost use Rattle.seq_repository.specs.Changes.{abandoned_at, effect_of};
@@ -184,7 +185,7 @@ fn copy_state(state: &WorkState) -> Result<WorkState, OutOfMemory>
 
 /// Returns the metrics with these counts added.
 fn add_counts(metrics: Metrics, step: MetricStep) -> Metrics
-    requires { IsWithin (most_after 1000000) metrics }
+    requires { IsWithin (most_after most_numbered) metrics }
     ensures sum { result ≡ added metrics step }
     ensures small { IsStep step }
 {
@@ -195,7 +196,7 @@ fn add_counts(metrics: Metrics, step: MetricStep) -> Metrics
 
 /// Returns the row of a work item with these counts added to its metrics.
 pub(crate) fn report_counts(step: MetricStep, row: &WorkRow) -> Result<WorkRow, OutOfMemory>
-    requires { IsWithin (most_after 1000000) row.now.metrics }
+    requires { IsWithin (most_after most_numbered) row.now.metrics }
     ensures new { IfOk result (λ new. new ≡ reported step row.now) }
     ensures small { IsStep step }
 {
@@ -226,7 +227,7 @@ pub(crate) fn end_work(
     number: u64,
     row: &WorkRow,
 ) -> Result<WorkRow, OutOfMemory>
-    requires { IsWithin (most_after 1000000) row.now.metrics }
+    requires { IsWithin (most_after most_numbered) row.now.metrics }
     ensures new { IfOk result (λ new. new ≡ over_as outcome exit step at number row.now) }
     ensures small { IsStep step }
 {

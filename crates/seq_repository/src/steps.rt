@@ -6,6 +6,7 @@ ghost use Rattle.batch_ids.specs.Metrics.{most_after, sum_of_metrics};
 ghost use Rattle.batch_ids.specs.declared.status.BatchStatus.TheVariants.{Stopped, Failed, Completed};
 ghost use Rattle.job_plans.specs.Plans.{is_kept};
 ghost use Rattle.walk_rules.specs.Keys.{key_of};
+ghost use Rattle.batch_history.specs.Legal.{most_numbered};
 ghost use Rattle.batch_history.specs.Lists.{is_at};
 ghost use Rattle.batch_history.specs.Replies.{partitions_of_job, row_status};
 ghost use Rattle.batch_history.specs.Rows.{Rows};
@@ -211,7 +212,7 @@ fn last_end(items: &[&WorkRow]) -> Option<Moment>
 /// Returns the sums of the reported metrics of these work items.
 #[tactic(auto, using(crate::proofs::Metering::both_none))]
 fn sum_of(items: &[&WorkRow]) -> Metrics
-    requires { AreWithin (most_after 1000000) (map (λ row. row.now) items.now) }
+    requires { AreWithin (most_after most_numbered) (map (λ row. row.now) items.now) }
     ensures { result ≡ sum_of_metrics
         (map (λ row. row.metrics) (map (λ row. row.now) items.now)) }
 {
@@ -230,7 +231,7 @@ fn shown_partitions(
     items: &[&WorkRow],
     first: &WorkRow,
 ) -> Result<StepExecution, OutOfMemory>
-    requires { AreWithin (most_after 1000000) (map (λ row. row.now) items.now) }
+    requires { AreWithin (most_after most_numbered) (map (λ row. row.now) items.now) }
     ensures { IfOk result (λ shown. shown
         ≡ shown_partitions owner.now left (map (λ row. row.now) items.now) first.now) }
 {
@@ -308,7 +309,7 @@ fn partitions_shown(
     works: &[&WorkRow],
     row: &WorkRow,
 ) -> Result<Option<StepExecution>, OutOfMemory>
-    requires { AreWithin (most_after 1000000) (map (λ work. work.now) works.now) }
+    requires { AreWithin (most_after most_numbered) (map (λ work. work.now) works.now) }
     ensures { IfOk result (λ step. step ≡ partitions_shown owner.now
         (partitions_of_job (job_named catalogue.now owner.now.job) (work_key row.now))
         (same_step (map (λ work. work.now) works.now) row.now) row.now) }
@@ -332,7 +333,7 @@ fn step_by_partition(
     works: &[&WorkRow],
     row: &WorkRow,
 ) -> Result<Option<StepExecution>, OutOfMemory>
-    requires { AreWithin (most_after 1000000) (map (λ work. work.now) works.now) }
+    requires { AreWithin (most_after most_numbered) (map (λ work. work.now) works.now) }
     ensures { IfOk result (λ step. step ≡ step_by_partition (job_named catalogue.now owner.now.job)
         owner.now (map (λ work. work.now) works.now) row.now row.now.partition) }
 {
@@ -350,7 +351,7 @@ fn step_execution(
     works: &[&WorkRow],
     row: &WorkRow,
 ) -> Result<Option<StepExecution>, OutOfMemory>
-    requires { AreWithin (most_after 1000000) (map (λ work. work.now) works.now) }
+    requires { AreWithin (most_after most_numbered) (map (λ work. work.now) works.now) }
     ensures { IfOk result (λ step. step ≡ step_execution (job_named catalogue.now owner.now.job)
         owner.now (map (λ work. work.now) works.now) row.now) }
 {
@@ -380,7 +381,7 @@ fn each_of(
     owner: &ExecutionRow,
     works: &[&WorkRow],
 ) -> Result<Vec<StepExecution>, OutOfMemory>
-    requires { AreWithin (most_after 1000000) (map (λ work. work.now) works.now) }
+    requires { AreWithin (most_after most_numbered) (map (λ work. work.now) works.now) }
     ensures { IfOk result (λ found. found.items
         ≡ filter_map (step_execution (job_named catalogue.now owner.now.job) owner.now
         (map (λ work. work.now) works.now)) (map (λ work. work.now) works.now)) }
@@ -401,7 +402,7 @@ pub(crate) fn step_executions(
     rows: &Records,
     owner: &ExecutionRow,
 ) -> Result<Listed<StepExecution>, OutOfMemory>
-    requires { AreWithin (most_after 1000000) rows.now.works }
+    requires { AreWithin (most_after most_numbered) rows.now.works }
     ensures { (r : Rows) → r.catalogue ≡ catalogue.now → r.works ≡ rows.now.works
         → IfOk result (λ found. found ≡ step_executions r owner.now) }
 {

@@ -1,9 +1,11 @@
 //! Tests of the service and its walks, of properties that no script in a file can show: indexes of
-//! elements, walks, clones, printed forms, full logs, readers and writers that fail, a list of
-//! events, built-in artifacts, threads that wait for one another, and a command line that is not
-//! UTF-8.
+//! elements, walks, clones, printed forms, the lines of a base, full logs, readers and writers that
+//! fail, a list of events, built-in artifacts, threads that wait for one another, and a command line
+//! that is not UTF-8.
 #![tactic(auto)]
 
+#[cfg(test)]
+mod base_lines;
 #[cfg(test)]
 mod books;
 #[cfg(test)]

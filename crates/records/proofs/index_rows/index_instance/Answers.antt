@@ -1,7 +1,7 @@
 use Rattle.std.proofs.Common.{ℕ, ◌==◌, List, [], ◌∷◌, ◌++◌, cond, bytes_eq, ◌∙◌, ap}
 use Rattle.records.specs.Indexes.{numbers_named, numbers_under, without_number}
 use Rattle.records.proofs.Lists.{undone}
-use Rattle.records.proofs.records.index_instance.Goals as goal
+use Rattle.records.proofs.index_rows.index_instance.Goals as goal
 
 pub returns-in-Ok : goal.returns-in-Ok
 returns-in-Ok c =

@@ -2,7 +2,7 @@ use Rattle.std.proofs.Common.{◌≡◌, ℕ, ◌==◌, List, [], ◌∷◌, ◌
 use Rattle.std.specs.Result.{OnOk}
 use Rattle.records.specs.Indexes.{numbers_under}
 use Rattle.records.proofs.Outcomes.{on_ok}
-use Rattle.records.proofs.records.index_execution.Goals as goal
+use Rattle.records.proofs.index_rows.index_execution.Goals as goal
 
 pub returns : goal.returns
 returns c =

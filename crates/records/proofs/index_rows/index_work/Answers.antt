@@ -3,7 +3,7 @@ use Rattle.std.specs.Result.{OnOk}
 use Rattle.batch_history.specs.Lists.{is_at}
 use Rattle.records.specs.Indexes.{has_steps, numbers_of_step, numbers_under}
 use Rattle.records.proofs.Outcomes.{on_ok, on_err}
-use Rattle.records.proofs.records.index_work.Goals as goal
+use Rattle.records.proofs.index_rows.index_work.Goals as goal
 
 pub returns-in-Some : goal.returns-in-Some
 returns-in-Some c =

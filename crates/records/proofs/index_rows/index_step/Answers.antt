@@ -1,7 +1,7 @@
 use Rattle.std.proofs.Common.{ℕ, List, [], ◌∷◌, ◌++◌, ◌==◌, ◌&&◌, cond, bytes_eq, ◌∙◌, ap}
 use Rattle.records.specs.Indexes.{has_steps, numbers_of_step, numbers_under, without_number}
 use Rattle.records.proofs.Stepped.{undone_step}
-use Rattle.records.proofs.records.index_step.Goals as goal
+use Rattle.records.proofs.index_rows.index_step.Goals as goal
 
 pub returns-in-Ok : goal.returns-in-Ok
 returns-in-Ok c =

@@ -1,0 +1,4 @@
+pub mod Bytes
+pub mod Decisions
+pub mod Names
+pub mod Objects
