@@ -38,3 +38,13 @@ def test_the_tables_have_each_member_and_each_form() -> None:
     text = PAGE.read_text()
     members = {name for form in FORMS.values() for name in form}
     assert {name for name in members | set(jsl.REFUSED) if f"`{name}`" not in text} == set()
+
+
+def test_the_page_says_what_to_do_instead_of_each_form() -> None:
+    """Each form that is refused by its name has one row, whose cells all say something."""
+    text = PAGE.read_text()
+    section = text[text.index("## What has no JSON form") : text.index("## Faults")]
+    rows = [[cell.strip() for cell in line.strip("|").split(" | ")] for line in section.splitlines() if line.startswith("| `")]
+    names = [name for cells in rows for name in re.findall("`([^`]+)`", cells[0])]
+    assert sorted(names) == sorted(jsl.REFUSED)
+    assert {len([cell for cell in cells if cell]) for cells in rows} == {4}

@@ -5,7 +5,7 @@ from __future__ import annotations
 import os
 import subprocess
 import sys
-from collections.abc import AsyncIterator
+from collections.abc import AsyncIterator, Sequence
 from contextlib import asynccontextmanager
 from pathlib import Path
 from typing import Any
@@ -14,8 +14,9 @@ from instances import COMMAND, Caller, until
 
 
 class WorkerProcess:
-    def __init__(self, url: str, artifacts: Path, slots: int = 4) -> None:
+    def __init__(self, url: str, artifacts: Path, slots: int = 4, more: Sequence[str] = ()) -> None:
         words = [sys.executable, str(COMMAND), "worker", "--url", url, "--artifacts", str(artifacts), "--slots", str(slots)]
+        words += more
         self.log = artifacts.parent / "worker.log"
         with open(self.log, "ab") as log:
             self.process = subprocess.Popen(words, stdout=log, stderr=log, env=os.environ)
@@ -27,8 +28,8 @@ class WorkerProcess:
 
 
 @asynccontextmanager
-async def working(url: str, artifacts: Path, slots: int = 4) -> AsyncIterator[WorkerProcess]:
-    worker = WorkerProcess(url, artifacts, slots)
+async def working(url: str, artifacts: Path, slots: int = 4, more: Sequence[str] = ()) -> AsyncIterator[WorkerProcess]:
+    worker = WorkerProcess(url, artifacts, slots, more)
     try:
         yield worker
     finally:

@@ -2,6 +2,7 @@
 
 from __future__ import annotations
 
+import math
 from collections.abc import Collection
 from dataclasses import dataclass, field
 
@@ -54,14 +55,19 @@ def read_json(name: str, data: bytes) -> CatalogueFile:
 
 
 def read_jsl(name: str, data: bytes, allowed: Collection[str]) -> CatalogueFile:
+    return translated(name, data, jsl.Translator(allowed))
+
+
+def translated(name: str, data: bytes, translator: jsl.Translator, most: float = math.inf) -> CatalogueFile:
+    """A file of JSL with at most so many elements, by a translator that has translated nothing before."""
     try:
-        source, element = jsl_text.read_xml(name, data)
+        source, element = jsl_text.read_xml(name, data, most)
     except jsl_text.NotXml as fault:
         return CatalogueFile(fault.source, None, refused=[Note(jsl.JSL, fault.at, NOBODY, str(fault))])
     other = jsl.no_job(element)
     if other is not None:
         return CatalogueFile(source, None, refused=[other])
-    made = jsl.Translator(allowed).job(element)
+    made = translator.job(element)
     root = catalogue_of([made.value])
     line = compact(plain(root))
     return CatalogueFile(source, line, root, too_long(line), made.refused, made.told)

@@ -1,13 +1,40 @@
-"""The catalogue's file as one line, its jobs, and their order."""
+"""What is served: a catalogue as one line, its jobs, and their order."""
 
 from __future__ import annotations
 
 import json
+from collections.abc import Callable, Mapping, Sequence
+from dataclasses import dataclass
 from pathlib import Path
 from typing import Any
 
+from job_host.catalogue.properties import JobProperties
 from job_host.catalogue.text import NotJson, Reader, one_line, plain
 from job_host.protocol.lines import compact
+
+
+class JobsRefused(Exception):
+    """Job files that can't be served. `lines` has a line for each fault."""
+
+    def __init__(self, lines: Sequence[str]) -> None:
+        super().__init__("; ".join(lines))
+        self.lines = lines
+
+
+def as_it_is(answer: bytes) -> str:
+    return answer.decode("utf-8", "replace")
+
+
+@dataclass(frozen=True)
+class ServedJobs:
+    """The jobs of a service: their catalogue as one line, and how a fault of it is told, by batchctl's answer.
+
+    `properties` has those of each job of a folder, by its id. It is none for a catalogue's file, which has no place for them.
+    """
+
+    line: bytes
+    told_fault: Callable[[bytes], str] = as_it_is
+    properties: Mapping[str, JobProperties] | None = None
 
 
 def read_file(path: Path) -> bytes:

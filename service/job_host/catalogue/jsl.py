@@ -196,10 +196,7 @@ class Translator:
         return Value(value.at, value.end, convert(text))
 
     def substituted(self, name: str, at: int, resolved: Resolved) -> str:
-        if resolved.wrong:
-            wrong = resolved.wrong[0]
-            near = likely(wrong.strip("#{}").split("[")[0], list(OPERATORS))
-            self.refuse(at, f"expected an expression such as #{{jobParameters['name']}} in \"{name}\", found `{wrong}`", near)
+        self.refuse_wrong(name, at, resolved)
         if resolved.unknown:
             unknown = ", ".join(map(shown, resolved.unknown))
             self.leave_out(at, f'{JOB_PROPERTIES} in "{name}" has no {unknown}: it is the empty text')
@@ -208,6 +205,11 @@ class Translator:
         if not resolved.wrong and resolved.later <= set(self.allowed):
             self.told.append(Note(WRITTEN_OUT, at, self.owner, f'substitution in "{name}": {shown(resolved.text)}'))
         return resolved.text
+
+    def refuse_wrong(self, name: str, at: int, resolved: Resolved) -> None:
+        for wrong in resolved.wrong[:1]:
+            near = likely(wrong.strip("#{}").split("[")[0], list(OPERATORS))
+            self.refuse(at, f"expected an expression such as #{{jobParameters['name']}} in \"{name}\", found `{wrong}`", near)
 
     def look(self, element: XmlElement, kind: str) -> None:
         """Refuses attributes, children and texts that JSL doesn't have there."""

@@ -3,6 +3,7 @@
 from __future__ import annotations
 
 import codecs
+import math
 import re
 from collections.abc import Iterator, Mapping
 from dataclasses import dataclass, field
@@ -101,9 +102,10 @@ def decoded(name: str, data: bytes) -> str:
 class Handler(ContentHandler):
     """Builds the tree. Where an event stands is the locator's line and column."""
 
-    def __init__(self, source: Source) -> None:
+    def __init__(self, source: Source, most: float) -> None:
         super().__init__()
         self.source = source
+        self._most = self._left = most
         self.root: XmlElement | None = None
         self._open: list[XmlElement] = []
 
@@ -121,6 +123,9 @@ class Handler(ContentHandler):
                 element.attributes[local] = Member(name_at, Value(begin, end, text))
         if len(self._open) >= MOST_NESTED:
             raise NotXml(self.source, at, f"elements are nested deeper than {MOST_NESTED}")
+        self._left -= 1
+        if self._left < 0:
+            raise NotXml(self.source, at, f"there are more than {self._most:g} elements")
         if self._open:
             self._open[-1].children.append(element)
         self.root = self.root or element
@@ -148,11 +153,11 @@ class Handler(ContentHandler):
             self._open[-1].texts.append(Value(at, at + len(content.strip()), content.strip()))
 
 
-def read_xml(name: str, data: bytes) -> tuple[Source, XmlElement]:
-    """The root of a file. Raises NotXml."""
+def read_xml(name: str, data: bytes, most: float = math.inf) -> tuple[Source, XmlElement]:
+    """The root of a file with at most so many elements. Raises NotXml."""
     source = Source(name, decoded(name, data))
     parser = DefusedExpatParser(forbid_dtd=True)
-    handler = Handler(source)
+    handler = Handler(source, most)
     parser.setFeature(feature_namespaces, True)
     parser.setContentHandler(handler)
     # The parser is handed the text alone, so that its places are those of the text, whatever the mark and the declaration say.

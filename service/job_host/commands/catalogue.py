@@ -17,6 +17,7 @@ from job_host.catalogue.diagram import draw
 from job_host.catalogue.diff import compare
 from job_host.catalogue.faults import Fault, Note, NoVerdict
 from job_host.catalogue.file import CatalogueFile, read_data, read_jsl
+from job_host.catalogue.folder import JobFolder, read_folder
 from job_host.catalogue.growth import changed_jobs, is_begun_by
 from job_host.catalogue.schema import schema_of_catalogues
 from job_host.catalogue.text import laid_out, one_line, plain
@@ -95,6 +96,9 @@ def check_files(given: argparse.Namespace) -> int:
     if given.artifacts is not None and not given.artifacts.is_dir():
         raise WrongWords(f"--artifacts {given.artifacts} is no folder")
     batchctl = find_batchctl(given.batchctl)
+    if given.jobs:
+        folders = [folder_of(name, given) for name in given.files]
+        return max([check_folder(folder, batchctl, given) for folder in folders])
     status = ACCEPTED
     for file in [read(name, given) for name in given.files]:
         checked = check(file, batchctl, given.artifacts)
@@ -103,13 +107,45 @@ def check_files(given: argparse.Namespace) -> int:
     return status
 
 
+def folder_of(name: str, given: argparse.Namespace) -> JobFolder:
+    try:
+        return read_folder(Path(name), given.allow)
+    except OSError as fault:
+        raise WrongWords(f"{name}: {fault.strerror}") from fault
+
+
+def check_folder(folder: JobFolder, batchctl: Sequence[str], given: argparse.Namespace) -> int:
+    """Checks each file of a folder, and tells what no file has by itself."""
+    verdicts = list[bool]()
+    for file in folder.files:
+        checked = check(file, batchctl, given.artifacts)
+        FORMATS[given.format](checked, sys.stdout)
+        verdicts.append(checked.is_accepted)
+    for line in folder.beside:
+        print(json.dumps({"file": str(folder.path), "told": line}) if given.format == "json" else printable(line))
+    return ACCEPTED if all(verdicts) and not folder.beside else REFUSED
+
+
 def schema(given: argparse.Namespace) -> int:
     print(laid_out(schema_of_catalogues()))
     return ACCEPTED
 
 
+def line_of_folder(given: argparse.Namespace) -> int:
+    """Writes the line of all jobs of a folder, as `jobhost serve --jobs` has it."""
+    folder = folder_of(given.file, given)
+    for told in [*folder.refused, *folder.told]:
+        print(printable(told), file=sys.stderr)
+    if folder.refused:
+        return REFUSED
+    sys.stdout.buffer.write(folder.line + b"\n")
+    return ACCEPTED
+
+
 def line(given: argparse.Namespace) -> int:
     """Writes the line of a file. JSON is not looked at: that is batchctl's, at the end of the pipe."""
+    if given.file != STANDARD_INPUT and Path(given.file).is_dir():
+        return line_of_folder(given)
     data = bytes_of(given.file)
     if not jsl_text.is_xml(data):
         sys.stdout.buffer.write(one_line(data) + b"\n")
@@ -219,11 +255,13 @@ def add_catalogue(subcommands: Subcommands[argparse.ArgumentParser]) -> None:
         commands, "check", check_files, "says where a catalogue is at fault, and warns of what is seldom meant"
     )
     checking.add_argument("files", nargs="+", metavar="FILE", help=a_file)
+    jobs = "each FILE is a folder of jobs, as of `jobhost serve --jobs`"
+    checking.add_argument("--jobs", action="store_true", help=jobs)
     checking.add_argument("--artifacts", type=Path, metavar="DIR", help="the workers' folder of executables (default: none)")
     checking.add_argument("--format", choices=FORMATS, default="text", help="how it is told (default: text)")
     add_command(commands, "schema", schema, "writes a JSON Schema of catalogues, for an editor")
     add_command(commands, "line", line, "writes a catalogue as one line, for a pipe").add_argument(
-        "file", metavar="FILE", help=a_file
+        "file", metavar="FILE", help=f"{a_file}; or a folder of jobs, as of `jobhost serve --jobs`"
     )
     turning = add_command(commands, "from-jsl", from_jsl, "turns JSL into a catalogue; a file has one job")
     turning.add_argument("files", nargs="+", metavar="FILE", help="a job in JSL")

@@ -11,7 +11,7 @@ from typing import Any
 from job_host.commands.program import find_batchctl
 from job_host.protocol.addresses import DEFAULT_PORT
 from job_host.protocol.bounds import REQUESTS_AT_ONCE
-from job_host.protocol.printable import begin_log
+from job_host.protocol.printable import begin_log, printable
 from job_host.service.settings import ServeSettings
 
 # Each busy slot may have a heartbeat and a report in hand.
@@ -24,8 +24,7 @@ def add_serve(subcommands: Subcommands[argparse.ArgumentParser]) -> None:
     told = "serves a catalogue's jobs over HTTP"
     parser = subcommands.add_parser("serve", help=told, description=told)
     add = parser.add_argument
-    jobs = "the jobs, as docs/CATALOGUE.md has them"
-    add("--catalogue", type=Path, required=True, metavar="FILE", help=jobs)
+    add_jobs(parser)
     data = "the folder of the history, if it isn't in PostgreSQL (default: %(default)s)"
     add("--data", type=Path, default=Path("jobhost-data"), metavar="DIR", help=data)
     postgres = "a PostgreSQL server that may be the primary; the option may come several times (default: none, and --data)"
@@ -38,6 +37,17 @@ def add_serve(subcommands: Subcommands[argparse.ArgumentParser]) -> None:
     takeover = "over PostgreSQL, this instance takes over after so long without a sign of the leader (default: %(default)g)"
     add("--takeover-after", type=float, default=5.0, metavar="SECONDS", help=takeover)
     parser.set_defaults(run=run_serve)
+
+
+def add_jobs(parser: argparse.ArgumentParser) -> None:
+    """Where the jobs stand."""
+    one = parser.add_mutually_exclusive_group(required=True)
+    jobs = "the jobs, as docs/CATALOGUE.md has them (default: none, and --jobs)"
+    one.add_argument("--catalogue", type=Path, metavar="FILE", help=jobs)
+    folder = "a folder of jobs: each *.xml is a job in JSL, each *.json a job or a catalogue (default: none, and --catalogue)"
+    one.add_argument("--jobs", type=Path, metavar="FOLDER", help=folder)
+    allow = "a form of JSL to leave out, as of `jobhost catalogue`; the option may come several times (default: none)"
+    parser.add_argument("--allow", action="append", default=[], metavar="NAME", help=allow)
 
 
 def add_listening(parser: argparse.ArgumentParser) -> None:
@@ -55,13 +65,40 @@ def add_listening(parser: argparse.ArgumentParser) -> None:
 
 
 def run_serve(given: argparse.Namespace) -> int:
+    from job_host.catalogue.jobs import JobsRefused
     from job_host.service.http.access import SettingsRefused
     from job_host.service.server import serve
 
+    if given.allow and not may_allow(given):
+        return 2
+    try:
+        return serve(serve_settings(given))
+    except JobsRefused as refused:
+        for line in (*refused.lines, f"jobhost serve: the jobs of {given.jobs} are refused"):
+            print(printable(line), file=sys.stderr)
+        return 1
+    except (SettingsRefused, OSError) as fault:
+        print(f"jobhost serve: {fault}", file=sys.stderr)
+        return 2
+
+
+def may_allow(given: argparse.Namespace) -> bool:
+    """Whether forms of JSL may be left out: only a folder of jobs may have such."""
+    from job_host.catalogue.jsl import REFUSED
+
+    if given.jobs is not None and set(given.allow) <= set(REFUSED):
+        return True
+    print(f"jobhost serve: --allow NAME is for --jobs, and NAME is one of {', '.join(sorted(REFUSED))}", file=sys.stderr)
+    return False
+
+
+def serve_settings(given: argparse.Namespace) -> ServeSettings:
     scheme = "https" if given.certificate else "http"
-    settings = ServeSettings(
-        catalogue=given.catalogue,
+    return ServeSettings(
+        catalogue=given.jobs or given.catalogue,
         batchctl=find_batchctl(given.batchctl),
+        is_folder=given.jobs is not None,
+        allow=tuple(given.allow),
         data=given.data,
         postgres=tuple(given.postgres),
         host=given.host,
@@ -73,11 +110,6 @@ def run_serve(given: argparse.Namespace) -> int:
         lease=given.lease,
         takeover_after=given.takeover_after,
     )
-    try:
-        return serve(settings)
-    except (SettingsRefused, OSError) as fault:
-        print(f"jobhost serve: {fault}", file=sys.stderr)
-        return 2
 
 
 def add_worker(subcommands: Subcommands[argparse.ArgumentParser]) -> None:
@@ -89,6 +121,8 @@ def add_worker(subcommands: Subcommands[argparse.ArgumentParser]) -> None:
     parser.add_argument("--artifacts", type=Path, required=True, metavar="DIR", help="the folder of executables")
     slots = f"how many work items run at a time, 1 to {MOST_SLOTS} (default: %(default)s)"
     parser.add_argument("--slots", type=int, default=1, metavar="N", help=slots)
+    system = "a variable of this environment that jobs may name as a system property; it may come several times (default: none)"
+    parser.add_argument("--system-property", action="append", default=[], metavar="NAME", help=system)
     parser.set_defaults(run=run_worker)
 
 
@@ -102,7 +136,8 @@ def run_worker(given: argparse.Namespace) -> int:
     if not given.artifacts.is_dir() or not 1 <= given.slots <= MOST_SLOTS:
         print(f"jobhost worker: --artifacts is a folder, and --slots 1 to {MOST_SLOTS}", file=sys.stderr)
         return 2
-    asyncio.run(work(worker_address(address_of(given), given.client), given.artifacts.resolve(), given.slots))
+    address, names = worker_address(address_of(given), given.client), given.system_property
+    asyncio.run(work(address, given.artifacts.resolve(), given.slots, names))
     return 0
 
 

@@ -12,6 +12,7 @@ from collections.abc import Awaitable, Callable, Sequence
 from aiohttp import web
 from prometheus_client import CONTENT_TYPE_LATEST
 
+from job_host.catalogue.jobs import ServedJobs, read_file
 from job_host.protocol.printable import begin_log
 from job_host.protocol.seldom import seldom
 from job_host.service.history.coprocess import CoProcessEnded
@@ -48,16 +49,31 @@ LIVE_PROBE, READY_PROBE = "/livez", "/readyz"
 Serve = Callable[[web.Request], Awaitable[web.StreamResponse]]
 
 
+def read_jobs(settings: ServeSettings) -> ServedJobs:
+    """The jobs of the file, or of the folder. Raises JobsRefused, and OSError if it can't be read.
+
+    Only a folder needs what reads JSL.
+    """
+    if settings.is_folder:
+        from job_host.catalogue.folder import read_folder
+
+        read = read_folder(settings.catalogue, settings.allow)
+        for line in read.told:
+            log.warning("%s", line)
+        return read.served()
+    return ServedJobs(read_file(settings.catalogue))
+
+
 def make_keeper(settings: ServeSettings, metrics: Metrics) -> Keeper:
     """The keeper of the history. Only one over PostgreSQL needs the package asyncpg."""
-    leases = Leases(settings.lease)
+    served, leases = read_jobs(settings), Leases(settings.lease)
     if not settings.postgres:
-        return EmbeddedKeeper(settings, leases, metrics.observers())
+        return EmbeddedKeeper(settings, served, leases, metrics.observers())
     try:
         from job_host.service.keepers.postgres import PostgresKeeper
     except ModuleNotFoundError as fault:
         raise SettingsRefused(f"--postgres needs {fault.name}: Debian's package python3-asyncpg") from fault
-    return PostgresKeeper(settings, leases, metrics.observers())
+    return PostgresKeeper(settings, served, leases, metrics.observers())
 
 
 class Service:

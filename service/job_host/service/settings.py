@@ -42,10 +42,15 @@ class Bounds:
 
 @dataclass(frozen=True)
 class ServeSettings:
-    """A service. `postgres` holds the DSN of each server that may be the primary; if it is empty, the service is embedded."""
+    """A service. `postgres` holds the DSN of each server that may be the primary; if it is empty, the service is embedded.
+
+    `catalogue` is a file, or with `is_folder` a folder of job files. `allow` names the forms of JSL to leave out there.
+    """
 
     catalogue: Path
     batchctl: tuple[str, ...]
+    is_folder: bool = False
+    allow: tuple[str, ...] = ()
     data: Path = Path("jobhost-data")
     postgres: tuple[str, ...] = ()
     host: str = "127.0.0.1"

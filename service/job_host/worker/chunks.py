@@ -17,7 +17,7 @@ from typing import Any
 from job_host.protocol import executables
 from job_host.worker import artifacts
 from job_host.worker.artifacts import Artifact, Ended, Program
-from job_host.worker.environment import ParametersFile, environment
+from job_host.worker.environment import WorkFiles, environment
 from job_host.worker.output import Tail, drain
 
 CHECKPOINT_BYTES = 65_536
@@ -83,7 +83,7 @@ class Chunk:
         self._tail = tail
         self._report = report
         self.parts: dict[str, Part] = {}
-        self._parameters: ParametersFile | None = None
+        self._files: WorkFiles | None = None
         self.stop_asked = False
         self._is_at_end = False
         self._writer_keeps_marks = False
@@ -105,8 +105,8 @@ class Chunk:
         try:
             await asyncio.gather(*(part.close() for part in self.parts.values()))
         finally:
-            if self._parameters is not None:
-                self._parameters.remove()
+            if self._files is not None:
+                self._files.remove()
 
     async def _open(self) -> None:
         """Starts all three, and opens the writer first: the reader goes on at the writer's mark if that keeps one."""
@@ -129,10 +129,13 @@ class Chunk:
         """Looks up all names before the first process is started."""
         names = {use: self._work[use] for use in ("reader", "processor", "writer") if self._work[use] is not None}
         paths = {use: executables.find(self._folder, name) for use, name in names.items()}
-        self._parameters = ParametersFile(self._claimed)
-        variables = environment(self._claimed, self._parameters.variables(), self._tail.say)
+        self._files = WorkFiles(self._claimed, names)
+        told = list[str]()
+        variables = {use: environment(self._claimed, use, self._files.variables(use), told.append) for use in names}
+        for text in dict.fromkeys(told):
+            self._tail.say(text)
         for use, path in paths.items():
-            program = Program(path, self._folder, variables, [self._parameters.path], has_input=True)
+            program = Program(path, self._folder, variables[use], self._files.paths, has_input=True)
             artifact = await artifacts.spawn(program)
             self.parts[use] = Part(names[use], artifact, self._tail)
 

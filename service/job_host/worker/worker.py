@@ -4,9 +4,10 @@ from __future__ import annotations
 
 import asyncio
 import logging
+import os
 import signal
 import uuid
-from collections.abc import Awaitable, Callable
+from collections.abc import Awaitable, Callable, Sequence
 from contextlib import ExitStack, suppress
 from dataclasses import dataclass, replace
 from pathlib import Path
@@ -14,11 +15,12 @@ from typing import Any, TypeVar
 
 from job_host.protocol import executables
 from job_host.protocol.client import Address, Client, Refused, Unreachable
+from job_host.protocol.late_texts import completed
 from job_host.protocol.seldom import seldom
 from job_host.worker import artifacts
 from job_host.worker.artifacts import Artifact, Ended, Program
 from job_host.worker.chunks import Chunk
-from job_host.worker.environment import ParametersFile, environment
+from job_host.worker.environment import WorkFiles, environment, use_of
 from job_host.worker.folder import ArtifactFolder
 from job_host.worker.output import ExitFile, FirstLine, Tail, drain
 
@@ -88,19 +90,20 @@ class Batchlet:
             path = executables.find(self.folder, self.claimed["work"]["ref"])
             file = ExitFile()
             files.callback(file.remove)
-            parameters = ParametersFile(self.claimed)
-            files.callback(parameters.remove)
-            return await self._run(path, file, parameters)
+            texts = WorkFiles(self.claimed, [use_of(self.claimed["work"])])
+            files.callback(texts.remove)
+            return await self._run(path, file, texts)
         except (executables.NoArtifact, OSError) as fault:
             self.tail.say(str(fault))
             return Ended("FAILED")
         finally:
             files.close()
 
-    async def _run(self, path: Path, file: ExitFile, parameters: ParametersFile) -> Ended:
+    async def _run(self, path: Path, file: ExitFile, texts: WorkFiles) -> Ended:
         """Runs the process. Both of its outputs are the log."""
-        variables = environment(self.claimed, {**file.variables(), **parameters.variables()}, self.tail.say)
-        artifact = await artifacts.spawn(Program(path, self.folder, variables, [file.path, parameters.path]))
+        use = use_of(self.claimed["work"])
+        variables = environment(self.claimed, use, {**file.variables(), **texts.variables(use)}, self.tail.say)
+        artifact = await artifacts.spawn(Program(path, self.folder, variables, [file.path, *texts.paths]))
         first = FirstLine()
         outputs = (drain(artifact.stdout, self.tail.stream(), first), drain(artifact.stderr, self.tail.stream()))
         heard = asyncio.gather(*outputs)
@@ -136,8 +139,9 @@ class Worker:
     `ending` says that nothing new is claimed.
     """
 
-    def __init__(self, client: Client, folder: Path, slots: int) -> None:
+    def __init__(self, client: Client, folder: Path, slots: int, system_properties: Sequence[str] = ()) -> None:
         self._client = client
+        self._system_properties = {name: os.environ[name] for name in system_properties if name in os.environ}
         self._folder = ArtifactFolder(folder)
         self._slots = slots
         self._tells_artifacts = True
@@ -154,12 +158,19 @@ class Worker:
             elif len(running) < self._slots:
                 claimed = await self._next()
                 if "work" in claimed:
+                    self._complete(claimed)
                     self._folder.note(claimed["work"])
                     running.add(asyncio.ensure_future(self._run(claimed)))
             else:
                 await self._until_free(running)
             running = still_running(running)
         await asyncio.gather(*running)
+
+    def _complete(self, claimed: dict[str, Any]) -> None:
+        """Puts the system properties that may be told into the properties of a work item."""
+        for texts in claimed.get("properties", {}).values():
+            for name, text in texts.items():
+                texts[name] = completed(text, self._system_properties)
 
     async def _look_later(self) -> None:
         """Returns after a second, or after the worker was told to end."""
@@ -232,6 +243,9 @@ class Worker:
         return Ended("FAILED") if running.cancelled() else await running
 
     async def _run_artifact(self, claimed: dict[str, Any], tail: Tail, told: Told) -> Ended:
+        if "propertiesFault" in claimed:
+            tail.say(f"the properties can't be handed over: {claimed['propertiesFault']}")
+            return Ended("FAILED")
         if claimed["work"]["kind"] != "chunk":
             return await Batchlet(self._folder.path, claimed, tail, told).run()
         chunk = Chunk(self._folder.path, claimed, tail, lambda mark, metrics: self._checkpoint(claimed, mark, metrics))
@@ -295,10 +309,10 @@ def worker_address(address: Address, given: str | None) -> Address:
     return replace(address, client=given or f"{address.client}-{uuid.uuid4().hex[:12]}")
 
 
-async def work(address: Address, folder: Path, slots: int) -> None:
+async def work(address: Address, folder: Path, slots: int, system_properties: Sequence[str] = ()) -> None:
     """Works until a signal; what runs then is run to its end. After a second signal it is killed, and is FAILED."""
     async with Client(address, seldom(log.warning)) as client:
-        worker = Worker(client, folder, slots)
+        worker = Worker(client, folder, slots, system_properties)
 
         def end() -> None:
             if worker.ending.is_set():

@@ -15,6 +15,7 @@ from typing import TypeVar
 
 from job_host.catalogue import growth, jobs
 from job_host.catalogue.faults import NoVerdict
+from job_host.catalogue.jobs import ServedJobs
 from job_host.service.history import log_file
 from job_host.service.history.coprocess import CatalogueRefused, CoProcess, CoProcessEnded
 from job_host.service.history.engine import Engine
@@ -51,11 +52,11 @@ LOG_NAME = "history.log"
 class EmbeddedKeeper(Keeper):
     """One instance, which always leads."""
 
-    def __init__(self, settings: ServeSettings, leases: Leases, observers: Observers) -> None:
-        super().__init__(leases)
+    def __init__(self, settings: ServeSettings, served: ServedJobs, leases: Leases, observers: Observers) -> None:
+        super().__init__(served, leases)
         self._settings = settings
         self._observers = observers
-        self._file = jobs.read_file(settings.catalogue)
+        self._file = served.line
         self._log = settings.data / LOG_NAME
         self._replayed = ReplayedLog(settings.batchctl, self._log)
         self._sessions = Sessions({}, settings.bounds.clients)
@@ -145,7 +146,7 @@ class EmbeddedKeeper(Keeper):
 
         batchctl looks at the file first. If it is whole and has the jobs in another order, they are put into that order.
         """
-        await check_catalogue(self._settings.batchctl, self._file)
+        await check_catalogue(self._settings.batchctl, self.served)
         words = [*self._settings.batchctl, "script", "--log", str(self._log), "--tags"]
         catalogue = self._file
         for _ in range(int(IN_USE_SECONDS / RETRY)):

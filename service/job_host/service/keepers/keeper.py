@@ -10,6 +10,7 @@ from contextlib import asynccontextmanager
 from dataclasses import dataclass, replace
 from typing import Any
 
+from job_host.catalogue.jobs import ServedJobs
 from job_host.protocol.lines import query, read
 from job_host.service.history.actions import Action
 from job_host.service.history.answers import Answers
@@ -64,7 +65,8 @@ class Fatal(Exception):
 class Keeper(ABC):
     """`role` is starting, follower or leader. Calls are for the leader, reads for both."""
 
-    def __init__(self, leases: Leases) -> None:
+    def __init__(self, served: ServedJobs, leases: Leases) -> None:
+        self.served = served
         self.role = "starting"
         self.leases = leases
         self.engine: Engine | None = None
@@ -286,12 +288,12 @@ def needed(engine: Engine, silent: Sequence[Silent]) -> list[Silent]:
     return [replace(one, is_needed=one.is_needed or one.number in engine.actions.sessions) for one in silent]
 
 
-async def check_catalogue(batchctl: Sequence[str], catalogue: bytes) -> None:
+async def check_catalogue(batchctl: Sequence[str], served: ServedJobs) -> None:
     """Lets batchctl read a catalogue, before its jobs are compared with those that were kept."""
     try:
-        process = await CoProcess.start([*batchctl, "script"], catalogue)
+        process = await CoProcess.start([*batchctl, "script"], served.line)
     except CatalogueRefused as fault:
-        raise Fatal(f"the catalogue was refused: {fault}") from fault
+        raise Fatal(f"the catalogue was refused: {served.told_fault(fault.fault)}") from fault
     except (FileNotFoundError, PermissionError) as fault:
         raise Fatal(f"there is no program {batchctl[0]}: {fault}") from fault
     await process.close()

@@ -14,6 +14,7 @@ from typing import TypeVar
 
 from job_host.catalogue import growth, jobs
 from job_host.catalogue.faults import NoVerdict
+from job_host.catalogue.jobs import ServedJobs
 from job_host.service.history.coprocess import CoProcess, CoProcessEnded
 from job_host.service.history.engine import Engine, ReplayDiffers
 from job_host.service.keepers.keeper import Fatal, Keeper, check_catalogue, first_of, needed
@@ -47,12 +48,12 @@ class CatalogueGrew(Exception):
 
 
 class PostgresKeeper(Keeper):
-    def __init__(self, settings: ServeSettings, leases: Leases, observers: Observers) -> None:
-        super().__init__(leases)
+    def __init__(self, settings: ServeSettings, served: ServedJobs, leases: Leases, observers: Observers) -> None:
+        super().__init__(served, leases)
         self._settings = settings
         self._observers = observers
         self._holder = f"{socket.gethostname()}:{os.getpid()}:{uuid.uuid4().hex[:8]}"
-        self._file = jobs.read_file(settings.catalogue)
+        self._file = served.line
         self._catalogue = b""
         self._bring: bytes | None = None
         self._has_begun = False
@@ -66,7 +67,7 @@ class PostgresKeeper(Keeper):
         self._closing = asyncio.Event()
 
     async def run(self) -> None:
-        await check_catalogue(self._settings.batchctl, self._file)
+        await check_catalogue(self._settings.batchctl, self.served)
         try:
             await self._serve()
         finally:
@@ -147,10 +148,19 @@ class PostgresKeeper(Keeper):
             return self._file, self._file
         batchctl = self._settings.batchctl
         if self._has_begun and not await asyncio.to_thread(growth.changed_jobs, batchctl, self._file, kept):
+            self._refuse_others_jobs(kept)
             return kept, None
         grown = await asyncio.to_thread(growth.grown, batchctl, kept, self._file)
         has_grown = len(jobs.jobs_of(grown)) > len(jobs.jobs_of(kept))
         return (grown, grown) if has_grown else (kept, None)
+
+    def _refuse_others_jobs(self, kept: bytes) -> None:
+        """Without the file of a job this instance can't resolve its properties. So it doesn't stand by for such a job."""
+        known = self.served.properties
+        others = [name for name in jobs.jobs_of(kept) if known is not None and name not in known]
+        if others:
+            told = ", ".join(map(repr, others))
+            raise growth.CatalogueChanged(f"another instance has brought {told}, which this one has no file of")
 
     async def _follow(self, store: PostgresStore, engine: Engine) -> int | None:
         """Follows the table until it may lead. Returns the epoch, or none if the service is to end."""

@@ -8,6 +8,7 @@ from typing import Any
 
 from aiohttp import web
 
+from job_host.catalogue.properties import TooLarge
 from job_host.protocol.bounds import ARTIFACT_CHARACTERS, MOST_ARTIFACTS
 from job_host.protocol.headers import REQUEST_KEY
 from job_host.protocol.lines import Members, fingerprint, query, read
@@ -57,8 +58,21 @@ def claimed(asked: Asked, kept: Kept) -> web.StreamResponse:
     told = answer_of(kept.reply, kept.seen)
     if "work" in told:
         told = views.work_item(told["work"], read(kept.answers[0]), read(kept.answers[1]))
+        told |= properties_for(asked, told)
         told["lease"] = asked.host.settings.lease
     return asked.answer(told, kept.seen)
+
+
+def properties_for(asked: Asked, told: Members) -> Members:
+    """What a claim is told of the properties of its work item: nothing if it has none."""
+    job = (asked.keeper.served.properties or {}).get(told.get("jobName", ""))
+    if job is None:
+        return {}
+    try:
+        properties = job.at_claim(told["work"], told["jobParameters"])
+    except TooLarge as fault:
+        return {"propertiesFault": str(fault)}
+    return {"properties": properties} if properties else {}
 
 
 async def withdraw(asked: Asked) -> web.StreamResponse:
