@@ -14,7 +14,7 @@ from instances import Caller, listening, running
 from job_host.service.keepers.embedded_term import EmbeddedTerm
 from job_host.service.problems import unavailable
 from job_host.service.server import Service
-from job_host.service.settings import ServeSettings
+from job_host.service.settings import HistoryBounds, ServeSettings
 
 
 async def fail(*given: Any) -> Any:
@@ -42,7 +42,7 @@ async def told_first(service: Service) -> str:
 
 
 async def test_operations_that_are_not_kept_are_not_told(idle: Callable[..., Service]) -> None:
-    async with listening(idle(warn_from=6)) as service:
+    async with listening(idle(other_history=HistoryBounds(1_000_000, 6, 7))) as service:
         lead(service, 7, 5)
         caller = Caller(f"http://127.0.0.1:{service.port}")
         paths = ("/batch/history", "/health/live", "/health/ready", "/health/leader")

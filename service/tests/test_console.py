@@ -19,7 +19,7 @@ from selenium.webdriver.common.keys import Keys
 from selenium.webdriver.support.select import Select
 from workers import WorkerProcess
 
-from job_host.service.settings import ServeSettings
+from job_host.service.settings import HistoryBounds, ServeSettings
 
 Make = Callable[..., ServeSettings]
 READER, OPERATOR = "r" * 20, "o" * 20
@@ -300,7 +300,7 @@ async def test_a_history_that_fills_is_told_on_every_page(browser: Browser, sett
         browser.click_text("Jobs", "header")
         browser.see("2 of 1,000,000 operations (less than 0.01 %)", "section[data-key=History]")
 
-    async with running(settings(warn_from=1, refuse_from=2)) as instance:
+    async with running(settings(other_history=HistoryBounds(1_000_000, 1, 2))) as instance:
         caller = Caller(instance.url)
         await caller.start("short")
         await caller.start("short")

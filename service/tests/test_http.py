@@ -16,7 +16,7 @@ import pytest
 from instances import Caller, Instance, running, until
 
 from job_host.service.http.access import Access, SettingsRefused
-from job_host.service.settings import Bounds, ServeSettings
+from job_host.service.settings import Bounds, HistoryBounds, ServeSettings
 from job_host.service.terms.term import Term
 
 Make = Callable[..., ServeSettings]
@@ -202,7 +202,7 @@ async def test_a_heartbeat_tells_of_a_stop_and_keeps_the_log(settings: Make) -> 
 
 
 async def test_a_history_that_fills_refuses_what_begins(settings: Make) -> None:
-    async with running(settings(warn_from=2, refuse_from=4)) as instance:
+    async with running(settings(other_history=HistoryBounds(1_000_000, 2, 4))) as instance:
         caller = Caller(instance.url)
         assert "warning" not in (await caller.ask("GET", "/health/live")).told
         for _ in range(3):

@@ -17,7 +17,7 @@ from job_host.service.history.answers import Answers
 from job_host.service.history.engine import Engine
 from job_host.service.history.execution_index import ExecutionIndex, Wanted
 from job_host.service.history.work_items import Ended, EndedWork, Held
-from job_host.service.settings import Bounds, ServeSettings
+from job_host.service.settings import Bounds, HistoryBounds, ServeSettings
 
 Make = Callable[..., ServeSettings]
 
@@ -271,7 +271,7 @@ def test_the_oldest_work_items_are_forgotten() -> None:
 async def test_how_full_the_history_is_and_who_asks(settings: Make, tmp_path: Path) -> None:
     tokens = tmp_path / "tokens"
     tokens.write_text(f"reader desk {'r' * 20}\noperator ops {'o' * 20}\n")
-    async with running(settings(tokens=tokens, warn_from=3, refuse_from=5)) as instance:
+    async with running(settings(tokens=tokens, other_history=HistoryBounds(1_000_000, 3, 5))) as instance:
         reader, operator = Caller(instance.url, token="r" * 20), Caller(instance.url, token="o" * 20)
         assert (await reader.ask("GET", "/batch/caller")).told == {"name": "desk", "rights": ["read"]}
         assert (await operator.ask("GET", "/batch/caller")).told == {"name": "ops", "rights": ["operate", "read"]}

@@ -13,7 +13,7 @@ from job_host.service.metrics import Metrics
 from job_host.service.pages import USUAL_SIZE
 from job_host.service.routes import work
 from job_host.service.routes.table import ROUTES
-from job_host.service.settings import Bounds
+from job_host.service.settings import LOG_BOUNDS, Bounds
 
 PAGE = ROOT / "docs" / "SERVICE.md"
 
@@ -71,7 +71,7 @@ def test_each_problem_is_one_of_the_table() -> None:
 
 def test_the_page_has_each_metric() -> None:
     told = {name for cells in rows() for name in names_in(cells[0]) if name.startswith("jobhost_")}
-    families = list(Metrics().registry.collect())
+    families = list(Metrics(LOG_BOUNDS).registry.collect())
     assert told == {family.name + ("_total" if family.type == "counter" else "") for family in families}
 
 

@@ -66,6 +66,9 @@ With `--log FILE` the history outlives the process: the line of each call that i
 disk, in FILE, before its reply is written. A later script over FILE goes on from there. Its first
 line is the same catalogue, or one with more jobs behind it. FILE is made if there is none.
 
+A history has at most 1,000,000 operations, and one in FILE 4,294,967,296. The next one is refused
+with RepositoryFull.
+
 With `--tags`, too, each line behind the catalogue may begin with a tag: up to 512 bytes and a tab.
 FILE keeps the whole line, and no reply depends on its tag. A line that begins with `{` has none. A
 FILE that was made with tags is only read with them.

@@ -1,5 +1,6 @@
 //! The names under which programs use the service. What is proved over any job repository stands
-//! here over the sequential one of at most 1,000,000 operations.
+//! here over the sequential one of at most 1,000,000 operations, and of a log over the one of at most
+//! 4,294,967,296.
 #![tactic(auto)]
 
 mod scripts;
@@ -34,7 +35,7 @@ pub type SessionPort<'a, R, N> = SessionPortOver<'a, R, N, Repository<1_000_000>
 
 /// The engine of a script over a log, whose lines have tags or not
 /// ([`logged_script::ScriptEngine`]).
-pub type ScriptEngine<const TAGS: bool> = ScriptEngineOver<Repository<1_000_000>, TAGS>;
+pub type ScriptEngine<const TAGS: bool> = ScriptEngineOver<Repository<4_294_967_296>, TAGS>;
 
 /// A log that was restored, with its engine ([`logged_script::RestoredLog`]).
-pub type RestoredLog<const TAGS: bool> = RestoredLogOver<Repository<1_000_000>, TAGS>;
+pub type RestoredLog<const TAGS: bool> = RestoredLogOver<Repository<4_294_967_296>, TAGS>;

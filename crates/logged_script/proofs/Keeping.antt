@@ -1,67 +1,74 @@
--- Which lines are kept, and the history behind them.
-use Rattle.std.proofs.Common.{◌≡◌, ◌∙◌, ℕ, Bool, true, false, cond, List, [], ◌∷◌, ◌++◌, length, Result, Ok, Err, refl, sym, ap, ap₂, subst, arith, eqb-true, lt-ltb, ltb-false, ltb-true}
-use Rattle.std.proofs.lemmas.List.{length-append, map-append}
+-- Which lines are kept, and the rows behind them.
+use Rattle.std.proofs.Common.{◌≡◌, ◌∙◌, ℕ, Bool, true, false, cond, Option, None, Some, List, [], ◌∷◌, ◌++◌, length, Result, Ok, Err, refl, sym, ap, ap₂, arith, eqb-true, lt-ltb, ltb-false, ltb-true}
+use Rattle.std.proofs.lemmas.List.{map-append}
 use Rattle.std.specs.Prelude.{nat_lt, ◌==◌, ◌<◌, ◌+◌}
 use Rattle.batch_ids.specs.declared.refusal.Refusal.{Refusal}
-use Rattle.batch_history.specs.Legal.{grown, history_after, most_operations}
-use Rattle.batch_history.specs.Replies.{is_nothing, reply}
-use Rattle.batch_history.specs.Rows.{History}
+use Rattle.batch_history.specs.Legal.{most_numbered}
+use Rattle.batch_history.specs.NextRows.{rows_after, rows_with, without}
+use Rattle.batch_history.specs.Operations.{purged_by}
+use Rattle.batch_history.specs.Replies.{is_nothing, reply_by}
+use Rattle.batch_history.specs.Rows.{Rows, rows}
 use Rattle.batch_history.specs.declared.call.Call.{Call}
 use Rattle.batch_history.specs.declared.call.Entry.{Entry}
 use Rattle.batch_history.specs.declared.call.Reply.{Reply}
+use Rattle.row_repository.specs.Calls.{rows_after_call}
 use Rattle.script_lines.specs.declared.line.TheConstants.{MAX_LINE}
 use Rattle.jsl_json.specs.declared.fault.ReadFault.{ReadFault}
 use Rattle.jsl_model.specs.Jobs.{JobTree}
 use Rattle.script_text.specs.Replies.{bad_line_text}
 use Rattle.script_text.specs.declared.command.Command.{Command}
 use Rattle.script_text.specs.declared.command.Command.TheVariants.{BadLine, TextTooLong, Act, Ask}
-use Rattle.script_engine.specs.Script.{begin, catalogue_at, command_at, history_for, history_past, line_after, line_text}
-use Rattle.script_engine.specs.Standing.{Stands}
-use Rattle.script_engine.proofs.Applying.{begun}
+use Rattle.script_engine.specs.ByRows.{command_at, line_rows_by, line_text_by, rows_by, rows_past}
+use Rattle.script_engine.specs.Script.{begin, catalogue_at}
 use Rattle.script_log.specs.Replays.{replayed}
 use Rattle.script_log.specs.Runs.{History as LogHistory, after}
-use Rattle.logged_script.specs.Histories.{history_at, is_kept, jobs_read, reply_at}
+use Rattle.logged_script.specs.Histories.{is_kept, jobs_at, jobs_read, reply_at, rows_at}
 use Rattle.logged_script.specs.Tags.{command_in, command_of, commands_in}
 
 -- one line more behind lines
-past-push : (h : History) (lines : List (List ℕ)) (line : List ℕ) → history_past h (lines ++ line ∷ []) ≡ line_after (history_past h lines) line
-past-push h [] line = refl
-past-push h (first ∷ lines) line = past-push (line_after h first) lines line
+past-push : (limit : ℕ) (r : Rows) (lines : List (List ℕ)) (line : List ℕ) → rows_past limit r (lines ++ line ∷ []) ≡ line_rows_by limit (rows_past limit r lines) line
+past-push limit r [] line = refl
+past-push limit r (first ∷ lines) line = past-push limit (line_rows_by limit r first) lines line
 
--- whether the log of a history is longer
-abbrev longer : History → History → Bool
-longer h next = nat_lt (length h.log) (length next.log)
+-- whether there are more operations
+abbrev longer : Rows → Rows → Bool
+longer r next = nat_lt r.count next.count
 
-never_longer : (h : History) (e : Entry) → longer h (grown h e) ≡ false → ⊥
-never_longer h e is =
-    let more : length (h.log ++ e ∷ []) ≡ length h.log + 1 = length-append h.log (e ∷ []) in
-    let least = ltb-false (length h.log) (length (h.log ++ e ∷ [])) is in
+-- a purge takes no operation away
+count-without : (purged : Option ℕ) (r : Rows) → (without purged r).count ≡ r.count
+count-without None r = refl
+count-without (Some i) r = refl
+
+never_longer : (r : Rows) (e : Entry) → longer r (rows_after r e) ≡ false → ⊥
+never_longer r e is =
+    let more : (rows_after r e).count ≡ r.count + 1 = count-without (purged_by e.call) (rows_with r e) in
+    let least = ltb-false r.count (rows_after r e).count is in
     absurd (omega (arith, more, least))
 
-call_unchanged : (h : History) (who : ℕ) (call : Call) (at : ℕ) (given : Reply) (nothing : Bool) → is_nothing given ≡ nothing
-    → longer h (cond nothing h (grown h record { who = who; call = call; at = at; reply = given })) ≡ false
-    → cond nothing h (grown h record { who = who; call = call; at = at; reply = given }) ≡ h
-call_unchanged h who call at given true e is = refl
-call_unchanged h who call at given false e is = absurd (never_longer h _ is)
+call_unchanged : (r : Rows) (who : ℕ) (call : Call) (at : ℕ) (given : Reply) (nothing : Bool)
+    → longer r (cond nothing r (rows_after r record { who = who; call = call; at = at; reply = given })) ≡ false
+    → cond nothing r (rows_after r record { who = who; call = call; at = at; reply = given }) ≡ r
+call_unchanged r who call at given true is = refl
+call_unchanged r who call at given false is = absurd (never_longer r _ is)
 
-reply_unchanged : (h : History) (who : ℕ) (call : Call) (at : ℕ) (result : Result Reply Refusal) → longer h (history_after h who call at result) ≡ false → history_after h who call at result ≡ h
-reply_unchanged h who call at (Ok given) is = call_unchanged h who call at given (is_nothing given) refl is
-reply_unchanged h who call at (Err refusal) is = refl
+reply_unchanged : (r : Rows) (who : ℕ) (call : Call) (at : ℕ) (result : Result Reply Refusal) → longer r (rows_after_call r who call at result) ≡ false → rows_after_call r who call at result ≡ r
+reply_unchanged r who call at (Ok given) is = call_unchanged r who call at given (is_nothing given) is
+reply_unchanged r who call at (Err refusal) is = refl
 
-command_unchanged : (h : History) (command : Command) → longer h (history_for h command) ≡ false → history_for h command ≡ h
-command_unchanged h BadLine is = refl
-command_unchanged h TextTooLong is = refl
-command_unchanged h (Act by at call) is = reply_unchanged h by call at (reply most_operations h by call) is
-command_unchanged h (Ask query) is = refl
+command_unchanged : (limit : ℕ) (r : Rows) (command : Command) → longer r (rows_by limit r command) ≡ false → rows_by limit r command ≡ r
+command_unchanged limit r BadLine is = refl
+command_unchanged limit r TextTooLong is = refl
+command_unchanged limit r (Act by at call) is = reply_unchanged r by call at (reply_by limit r by call) is
+command_unchanged limit r (Ask query) is = refl
 
-unchanged_by : (h : History) (line : List ℕ) (empty : Bool) → longer h (cond empty h (history_for h (command_at line))) ≡ false → cond empty h (history_for h (command_at line)) ≡ h
-unchanged_by h line true is = refl
-unchanged_by h line false is = command_unchanged h (command_at line) is
+unchanged_by : (limit : ℕ) (r : Rows) (line : List ℕ) (empty : Bool) → longer r (cond empty r (rows_by limit r (command_at line))) ≡ false → cond empty r (rows_by limit r (command_at line)) ≡ r
+unchanged_by limit r line true is = refl
+unchanged_by limit r line false is = command_unchanged limit r (command_at line) is
 
--- a line by which the log does not grow changes nothing
-pub unchanged : (h : History) (line : List ℕ) → longer h (line_after h line) ≡ false → line_after h line ≡ h
-unfolding line_after
-unchanged h line is = unchanged_by h line (length line == 0) is
+-- a line that is no operation changes nothing
+pub unchanged : (limit : ℕ) (r : Rows) (line : List ℕ) → longer r (line_rows_by limit r line) ≡ false → line_rows_by limit r line ≡ r
+unfolding line_rows_by
+unchanged limit r line is = unchanged_by limit r line (length line == 0) is
 
 -- the commands of one line more
 commands-push : (tags : Bool) (lines : List (List ℕ)) (line : List ℕ) → commands_in tags (lines ++ line ∷ []) ≡ commands_in tags lines ++ command_in tags line ∷ []
@@ -69,14 +76,14 @@ commands-push true lines line = map-append command_of lines (line ∷ [])
 commands-push false lines line = refl
 
 after_by : (tags : Bool) (h : LogHistory) (line : List ℕ) (kept : Bool) → is_kept tags h line ≡ kept
-    → history_at tags (cond kept record { catalogue = h.catalogue; lines = h.lines ++ line ∷ [] } h) ≡ line_after (history_at tags h) (command_in tags line)
+    → rows_at tags (cond kept record { catalogue = h.catalogue; lines = h.lines ++ line ∷ [] } h) ≡ line_rows_by most_numbered (rows_at tags h) (command_in tags line)
 after_by tags h line true is =
-    let first = begin (jobs_read (catalogue_at h.catalogue)) in
-    ap (history_past first) (commands-push tags h.lines line) ∙ past-push first (commands_in tags h.lines) (command_in tags line)
-after_by tags h line false is = sym (unchanged (history_at tags h) (command_in tags line) is)
+    let first : Rows = rows (begin (jobs_at h)) in
+    ap (rows_past most_numbered first) (commands-push tags h.lines line) ∙ past-push most_numbered first (commands_in tags h.lines) (command_in tags line)
+after_by tags h line false is = sym (unchanged most_numbered (rows_at tags h) (command_in tags line) is)
 
--- THE HISTORY OF THE REPOSITORY behind a line is that of the lines that are kept
-pub after_line : (tags : Bool) (h : LogHistory) (line : List ℕ) → history_at tags (after (is_kept tags) h line) ≡ line_after (history_at tags h) (command_in tags line)
+-- THE ROWS OF THE REPOSITORY behind a line are those of the lines that are kept
+pub after_line : (tags : Bool) (h : LogHistory) (line : List ℕ) → rows_at tags (after (is_kept tags) h line) ≡ line_rows_by most_numbered (rows_at tags h) (command_in tags line)
 after_line tags h line = after_by tags h line (is_kept tags h line) refl
 
 positive_by : (n : ℕ) (none : Bool) → (n == 0) ≡ none → 0 < n → none ≡ false
@@ -86,9 +93,9 @@ positive_by n false e some = refl
 positive : (n : ℕ) → 0 < n → (n == 0) ≡ false
 positive n some = positive_by n (n == 0) refl some
 
-long_after : (h : History) (line : List ℕ) → MAX_LINE < length line → (line_text h line ≡ bad_line_text) × (line_after h line ≡ h)
-unfolding line_text line_after
-long_after h line long =
+long_after : (limit : ℕ) (r : Rows) (line : List ℕ) → MAX_LINE < length line → (line_text_by limit r line ≡ bad_line_text) × (line_rows_by limit r line ≡ r)
+unfolding line_text_by line_rows_by
+long_after limit r line long =
     let some : (length line == 0) ≡ false = positive (length line) (omega (arith, long)) in
     let over : nat_lt MAX_LINE (length line) ≡ true = lt-ltb MAX_LINE (length line) long in
     (rw (some, over) refl, rw (some, over) refl)
@@ -111,21 +118,25 @@ long_command false line long = refl
 pub long_line : (tags : Bool) (h : LogHistory) (line : List ℕ) → MAX_LINE < length line → (reply_at tags h line ≡ bad_line_text) × (is_kept tags h line ≡ false) × (after (is_kept tags) h line ≡ h)
 long_line tags h line long =
     let is = long_command tags line long in
-    let both = long_after (history_at tags h) line long in
-    let next : line_after (history_at tags h) (command_in tags line) ≡ history_at tags h = ap (line_after (history_at tags h)) is ∙ both.1 in
-    let kept : is_kept tags h line ≡ false = ap (λ (next : History). longer (history_at tags h) next) next ∙ not_less (length (history_at tags h).log) in
-    (ap (line_text (history_at tags h)) is ∙ both.0, kept, ap (λ (b : Bool). cond b record { catalogue = h.catalogue; lines = h.lines ++ line ∷ [] } h) kept)
+    let both = long_after most_numbered (rows_at tags h) line long in
+    let next : line_rows_by most_numbered (rows_at tags h) (command_in tags line) ≡ rows_at tags h = ap (line_rows_by most_numbered (rows_at tags h)) is ∙ both.1 in
+    let kept : is_kept tags h line ≡ false = ap (λ (next : Rows). longer (rows_at tags h) next) next ∙ not_less (rows_at tags h).count in
+    (ap (line_text_by most_numbered (rows_at tags h)) is ∙ both.0, kept, ap (λ (b : Bool). cond b record { catalogue = h.catalogue; lines = h.lines ++ line ∷ [] } h) kept)
 
--- a line that was answered is kept exactly if there is one operation more, and the repository stands for the history behind it
-pub whole_line : (tags : Bool) (limit : ℕ) (stands : History → Type 0) (before behind : ℕ) (h : LogHistory) (line : List ℕ) → before ≡ length (history_at tags h).log → behind ≡ length (line_after (history_at tags h) (command_in tags line)).log
-    → Stands limit stands (line_after (history_at tags h) (command_in tags line)) → (nat_lt before behind ≡ is_kept tags h line) × Stands limit stands (history_at tags (after (is_kept tags) h line))
-whole_line tags limit stands before behind h line few more next = (ap₂ nat_lt few more, subst (λ (now : History). Stands limit stands now) (sym (after_line tags h line)) next)
+-- what is equal gives the same, at a limit that is the greatest
+pub at_limit : {A : Type 0} (f : ℕ → Rows → List ℕ → A) (limit : ℕ) (r now : Rows) (line command : List ℕ) → limit ≡ most_numbered → r ≡ now → line ≡ command
+    → f limit r line ≡ f most_numbered now command
+at_limit f limit r now line command is are same =
+    ap (λ (l : ℕ). f l r line) is ∙ (ap (λ (o : Rows). f most_numbered o line) are ∙ ap (f most_numbered now) same)
 
 -- before the first line
 no-commands : (tags : Bool) → commands_in tags [] ≡ []
 no-commands true = refl
 no-commands false = refl
 
-pub fresh : (tags : Bool) (limit : ℕ) (stands : History → Type 0) (catalogue : List JobTree) (line : List ℕ) → limit ≡ most_operations → catalogue_at line ≡ Ok catalogue → stands (begin catalogue)
-    → Stands limit stands (history_at tags (replayed line []))
-fresh tags limit stands catalogue line most is stood = subst (λ (lines : List (List ℕ)). Stands limit stands (history_past (begin (jobs_read (catalogue_at line))) lines)) (sym (no-commands tags)) (subst (λ (read : Result (List JobTree) ReadFault). Stands limit stands (begin (jobs_read read))) (sym is) (begun limit stands catalogue most stood))
+pub fresh : (tags : Bool) (r : Rows) (catalogue : List JobTree) (line : List ℕ) → catalogue_at line ≡ Ok catalogue → r ≡ rows (begin catalogue)
+    → r ≡ rows_at tags (replayed line [])
+fresh tags r catalogue line is are =
+    are
+    ∙ (ap (λ (read : Result (List JobTree) ReadFault). rows (begin (jobs_read read))) (sym is)
+    ∙ ap (rows_past most_numbered (rows (begin (jobs_read (catalogue_at line))))) (sym (no-commands tags)))

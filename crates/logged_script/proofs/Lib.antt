@@ -1,6 +1,7 @@
 pub mod Floats
 pub mod Growing
 pub mod Keeping
+pub mod Standing
 pub mod Tagging
 pub mod Opened
 pub mod Widening

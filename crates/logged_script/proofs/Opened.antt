@@ -1,16 +1,17 @@
 -- A log that is restored, or refused.
 use Rattle.std.proofs.Common.{◌≡◌, ◌∙◌, inl, inr, ℕ, drop, Bool, true, false, List, [], Ok, refl, sym, ap, subst}
-use Rattle.std.specs.Prelude.{◌||◌, IsTrue, box_value, if◌then◌else◌}
+use Rattle.std.specs.Prelude.{◌||◌, IsTrue, if◌then◌else◌}
 use Rattle.jsl_model.specs.Jobs.{JobTree}
-use Rattle.batch_history.specs.Rows.{History}
+use Rattle.batch_history.specs.Legal.{most_numbered}
+use Rattle.batch_history.specs.Rows.{Rows, rows}
 use Rattle.durable_log.specs.Format.{LogRecord}
 use Rattle.durable_log.specs.Files.{StandsFor}
 use Rattle.durable_log.specs.Logs.{records_of, EndsAt, IsAtRest, IsSealed}
 use Rattle.durable_log.specs.Shown.{HasFault}
 use Rattle.durable_log.specs.declared.reading.ReadFault.{ReadFault}
 use Rattle.durable_log.specs.declared.reading.ReadFault.TheVariants as reads
-use Rattle.script_engine.specs.Script.{begin, catalogue_at, history_past}
-use Rattle.script_engine.specs.Standing.{Stands}
+use Rattle.script_engine.specs.ByRows.{rows_past}
+use Rattle.script_engine.specs.Script.{begin, catalogue_at}
 use Rattle.script_log.specs.Runs.{History as LogHistory, last_catalogue, kept_lines, history_of}
 use Rattle.script_log.specs.Replays.{IsReplayFault, replayed}
 use Rattle.script_log.specs.declared.replays.ReplayFault.{ReplayFault}
@@ -25,18 +26,21 @@ use Rattle.logged_script.specs.declared.fault.LogFault.TheVariants.{InUse, Forei
 use Rattle.logged_script.specs.declared.opening.OpeningFault.{OpeningFault}
 use Rattle.logged_script.specs.declared.opening.OpeningFault.TheVariants.{Refused, OutOfMemory}
 
--- an engine that stands for the lines over the given catalogue stands for those of the records, whose catalogue has the same jobs
-stands-same : {J : Type 0} {n : ℕ} (tags : Bool) (limit : ℕ) (stands : J → History → Type 0) (engine : ScriptEngine J n) (records : List LogRecord) (line : List ℕ) → GoesOnFrom records line false
-    → Answers tags limit stands engine (replayed line records) → Answers tags limit stands engine (history_of records)
-stands-same tags limit stands engine records line G answers =
+-- an engine with the rows of the lines over the given catalogue has those of the records, whose catalogue has the same jobs
+stands-same : {J : Type 0} {n : ℕ} (tags : Bool) (limit : ℕ) (rows_in : J → Rows) (engine : ScriptEngine J n) (records : List LogRecord) (line : List ℕ) → GoesOnFrom records line false
+    → Answers tags limit rows_in engine (replayed line records) → Answers tags limit rows_in engine (history_of records)
+stands-same tags limit rows_in engine records line G answers =
     let jobs : jobs_read (catalogue_at line) ≡ jobs_read (catalogue_at (last_catalogue [] records)) = ap jobs_read G.is_given ∙ G.has_grown ∙ sym (ap jobs_read G.has.read) in
-    subst (λ (jobs : List JobTree). Stands limit (stands (box_value engine.repository)) (history_past (begin jobs) (commands_in tags (kept_lines records)))) jobs answers
+    record {
+      limit_is = answers.limit_is;
+      rows_are = answers.rows_are ∙ ap (λ (jobs : List JobTree). rows_past most_numbered (rows (begin jobs)) (commands_in tags (kept_lines records))) jobs;
+    }
 
 -- an engine that was brought to the lines of the records answers over the records with which the run begins
-pub answers-begun : {J : Type 0} {n : ℕ} (tags : Bool) (limit : ℕ) (stands : J → History → Type 0) (engine : ScriptEngine J n) (records now : List LogRecord) (line : List ℕ) (grown : Bool) → GoesOnFrom records line grown
-    → now ≡ records_begun records line grown → Answers tags limit stands engine (replayed line records) → Answers tags limit stands engine (history_of now)
-answers-begun tags limit stands engine records now line true G is answers = subst (λ (h : LogHistory). Answers tags limit stands engine h) (sym (ap history_of is ∙ history-catalogue records line)) answers
-answers-begun tags limit stands engine records now line false G is answers = subst (λ (rs : List LogRecord). Answers tags limit stands engine (history_of rs)) (sym is) (stands-same tags limit stands engine records line G answers)
+pub answers-begun : {J : Type 0} {n : ℕ} (tags : Bool) (limit : ℕ) (rows_in : J → Rows) (engine : ScriptEngine J n) (records now : List LogRecord) (line : List ℕ) (grown : Bool) → GoesOnFrom records line grown
+    → now ≡ records_begun records line grown → Answers tags limit rows_in engine (replayed line records) → Answers tags limit rows_in engine (history_of now)
+answers-begun tags limit rows_in engine records now line true G is answers = subst (λ (h : LogHistory). Answers tags limit rows_in engine h) (sym (ap history_of is ∙ history-catalogue records line)) answers
+answers-begun tags limit rows_in engine records now line false G is answers = subst (λ (rs : List LogRecord). Answers tags limit rows_in engine (history_of rs)) (sym is) (stands-same tags limit rows_in engine records line G answers)
 
 -- the file is no log
 pub not-read : (tags : Bool) (file line : List ℕ) (fault : ReadFault) → HasFault file fault → IsOpeningFault tags file line (fault_of_read fault)

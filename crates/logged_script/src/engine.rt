@@ -1,14 +1,14 @@
 // A job repository that replies to the lines of a script.
 ghost use Rattle.std.specs.Prelude.{◌≡◌, [], List, ℕ, Ok, IfOk};
-ghost use Rattle.batch_history.specs.Legal.{most_operations};
+ghost use Rattle.batch_history.specs.Legal.{most_numbered};
 ghost use Rattle.script_engine.specs.Script.{catalogue_at};
 ghost use Rattle.script_log.specs.Replays.{replayed};
 ghost use Rattle.logged_script.specs.Histories.{Answers, is_kept, reply_at};
 
 use crate::tags::command_in;
 use batch_ids::OutOfMemory;
-use job_repository::JobRepository;
 use jsl_model::Catalogue;
+use row_repository::RowRepository;
 use script_engine::{answer_whole, bad_line_text, boxed_repository};
 use script_lines::MAX_LINE;
 use script_log::{Answered, Engine};
@@ -19,20 +19,20 @@ use std::alloc::{AllocError, Global};
 /// it is a call that is accepted with another reply than Nothing. With `TAGS`, a line may begin with
 /// a tag, which is logged with it, and on which no reply depends ([`command_of`](crate::command_of)).
 #[derive(Drop)]
-pub struct ScriptEngine<J: JobRepository, const TAGS: bool> {
+pub struct ScriptEngine<J: RowRepository, const TAGS: bool> {
     commands: CommandReader,
     repository: Box<J>,
 }
 
-impl<J: JobRepository, const TAGS: bool> ScriptEngine<J, TAGS> {
+impl<J: RowRepository, const TAGS: bool> ScriptEngine<J, TAGS> {
     /// Makes a repository over this catalogue, without operations.
     ///
     /// # Errors
     ///
     /// Returns `OutOfMemory` if memory is refused. The catalogue is dropped.
     pub fn new(alloc: Global, catalogue: Catalogue) -> Result<ScriptEngine<J, TAGS>, OutOfMemory>
-        requires { J.limit ≡ most_operations }
-        ensures { IfOk result (λ engine. (line : List ℕ) → catalogue_at line ≡ Ok catalogue → Answers TAGS J.limit J.stands engine (replayed line [])) }
+        requires { J.limit ≡ most_numbered }
+        ensures { IfOk result (λ engine. (line : List ℕ) → catalogue_at line ≡ Ok catalogue → Answers TAGS J.limit J.rows engine (replayed line [])) }
     {
         let repository = boxed_repository(alloc, catalogue)?;
         Ok(ScriptEngine {
@@ -42,8 +42,8 @@ impl<J: JobRepository, const TAGS: bool> ScriptEngine<J, TAGS> {
     }
 }
 
-impl<J: JobRepository, const TAGS: bool> Engine for ScriptEngine<J, TAGS> {
-    ghost stands = { Answers TAGS J.limit J.stands };
+impl<J: RowRepository, const TAGS: bool> Engine for ScriptEngine<J, TAGS> {
+    ghost stands = { Answers TAGS J.limit J.rows };
 
     ghost keeps = { is_kept TAGS };
 

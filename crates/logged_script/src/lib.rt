@@ -5,6 +5,7 @@
 mod catalogue;
 mod engine;
 mod fault;
+mod law;
 mod opening;
 mod run;
 mod tags;
@@ -13,6 +14,7 @@ mod text;
 pub use catalogue::{catalogue_at, new_log};
 pub use engine::ScriptEngine;
 pub use fault::LogFault;
+pub use law::logs_stand_for_legal_histories;
 pub use opening::{OpeningFault, RestoredLog, restore};
 pub use run::answer_restored;
 pub use tags::{MAX_TAG, command_of};

@@ -1,6 +1,6 @@
 // Restoring the log of a script: pure functions over the bytes of its file.
 ghost use Rattle.std.specs.Prelude.{◌≡◌, ◌≤◌, ◌^◌, List, [], length, map, false, Ok, IfOk, IfErr, IsTrue};
-ghost use Rattle.batch_history.specs.Legal.{most_operations};
+ghost use Rattle.batch_history.specs.Legal.{most_numbered};
 ghost use Rattle.durable_log.specs.Files.{StandsFor};
 ghost use Rattle.durable_log.specs.Logs.{records_of, IsRest, Reopens};
 ghost use Rattle.durable_log.specs.Shown.{record_shown, IsEnd};
@@ -18,8 +18,8 @@ use crate::catalogue::has_grown;
 use crate::engine::ScriptEngine;
 use crate::fault::LogFault;
 use durable_log::{CleanLog, End, LogFile, ReadFault, Record, read_log, restored, with_record};
-use job_repository::JobRepository;
 use jsl_model::Catalogue;
+use row_repository::RowRepository;
 use script_log::{CATALOGUE_MARK, ReplayFault, replay};
 use std::alloc::{AllocError, Global};
 use std::error::Error;
@@ -55,7 +55,7 @@ impl From<AllocError> for OpeningFault {
 
 /// The restored log of a script, and the engine that represents the history of its records.
 #[derive(Drop)]
-pub struct RestoredLog<J: JobRepository, const TAGS: bool> {
+pub struct RestoredLog<J: RowRepository, const TAGS: bool> {
     /// The bytes of the new file, and the place at which its log goes on.
     pub file: LogFile,
     /// The bytes after the records of the old file, if its end was neither clean nor sealed.
@@ -68,7 +68,7 @@ pub struct RestoredLog<J: JobRepository, const TAGS: bool> {
 
 // A log whose lines were run again.
 #[derive(Drop)]
-struct Replayed<J: JobRepository, const TAGS: bool> {
+struct Replayed<J: RowRepository, const TAGS: bool> {
     end: End,
     grown: bool,
     engine: ScriptEngine<J, TAGS>,
@@ -101,15 +101,15 @@ fn unanswered(fault: ReplayFault) -> OpeningFault
 }
 
 // Runs the lines of records again, over a fresh engine.
-fn replay_records<J: JobRepository, const TAGS: bool>(
+fn replay_records<J: RowRepository, const TAGS: bool>(
     alloc: Global,
     records: &[Record<'_>],
     mut engine: ScriptEngine<J, TAGS>,
     line: &[u8],
 ) -> Result<ScriptEngine<J, TAGS>, OpeningFault>
-    requires { Answers TAGS J.limit J.stands engine (replayed line.now []) }
+    requires { Answers TAGS J.limit J.rows engine (replayed line.now []) }
     ensures alike { IfOk result (λ _. AreAlike (is_kept TAGS) (reply_at TAGS) (replayed line.now []) (map record_shown records.now)) }
-    ensures answers { IfOk result (λ ran. Answers TAGS J.limit J.stands ran (replayed line.now (map record_shown records.now))) }
+    ensures answers { IfOk result (λ ran. Answers TAGS J.limit J.rows ran (replayed line.now (map record_shown records.now))) }
     ensures fault { IfErr result (λ fault. (why : WhyNot) × (fault ≡ fault_of_replay why)
         × IsReplayFault (is_kept TAGS) (reply_at TAGS) line.now (map record_shown records.now) why) }
 {
@@ -120,19 +120,19 @@ fn replay_records<J: JobRepository, const TAGS: bool>(
 }
 
 // Reads a log, and runs its lines again.
-fn replay_file<J: JobRepository, const TAGS: bool>(
+fn replay_file<J: RowRepository, const TAGS: bool>(
     alloc: Global,
     file: &[u8],
     line: &[u8],
     catalogue: Catalogue,
 ) -> Result<Replayed<J, TAGS>, OpeningFault>
-    requires limit { J.limit ≡ most_operations }
+    requires limit { J.limit ≡ most_numbered }
     requires catalogue { catalogue_at line.now ≡ Ok catalogue }
     ensures whole { IfOk result (λ _. StandsFor (records_of file.now) file.now) }
     ensures end { IfOk result (λ ran. IsEnd file.now ran.end) }
     ensures goes_on { IfOk result (λ ran. GoesOnFrom (records_of file.now) line.now ran.grown) }
     ensures alike { IfOk result (λ _. AreAlike (is_kept TAGS) (reply_at TAGS) (replayed line.now []) (records_of file.now)) }
-    ensures answers { IfOk result (λ ran. Answers TAGS J.limit J.stands ran.engine (replayed line.now (records_of file.now))) }
+    ensures answers { IfOk result (λ ran. Answers TAGS J.limit J.rows ran.engine (replayed line.now (records_of file.now))) }
     ensures fault { IfErr result (IsOpeningFault TAGS file.now line.now) }
 {
     let contents = match read_log(alloc, file) {
@@ -197,13 +197,13 @@ fn new_file(
 /// - `Refused`, with the first fault in this order: `Foreign`, `Later`, `Damaged`; `Foreign` if
 ///   record 0 is no catalogue or the last catalogue can't be read; `OtherCatalogue`; `OtherReply`.
 /// - `OutOfMemory` if memory is refused, instead of any result.
-pub fn restore<J: JobRepository, const TAGS: bool>(
+pub fn restore<J: RowRepository, const TAGS: bool>(
     alloc: Global,
     file: Vec<u8>,
     line: &[u8],
     catalogue: Catalogue,
 ) -> Result<RestoredLog<J, TAGS>, OpeningFault>
-    requires limit { J.limit ≡ most_operations }
+    requires limit { J.limit ≡ most_numbered }
     requires catalogue { catalogue_at line.now ≡ Ok catalogue }
     ensures begun { IfOk result (λ log. IsBegun TAGS file.items line.now (records_of log.file.bytes.items)) }
 
@@ -213,7 +213,7 @@ pub fn restore<J: JobRepository, const TAGS: bool>(
     ensures rest { IfOk result (λ log. IsRest log.file.bytes.items log.file.rest) }
     ensures cut { IfOk result (λ log. IsCutOff file.items log.cut.items) }
     ensures reopens { IfOk result (λ log. IsTrue log.reopens → Reopens file.items log.file.bytes.items log.file.rest.end) }
-    ensures answers { IfOk result (λ log. Answers TAGS J.limit J.stands log.engine (history_of (records_of log.file.bytes.items))) }
+    ensures answers { IfOk result (λ log. Answers TAGS J.limit J.rows log.engine (history_of (records_of log.file.bytes.items))) }
     ensures fault { IfErr result (IsOpeningFault TAGS file.items line.now) }
 {
     let ran = match replay_file(alloc, &file, line, catalogue) {

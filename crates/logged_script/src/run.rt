@@ -14,7 +14,7 @@ ghost use Rattle.logged_script.specs.Logged.{Ends, IsAnsweredOver};
 
 use crate::engine::ScriptEngine;
 use durable_log::{Host, Log};
-use job_repository::JobRepository;
+use row_repository::RowRepository;
 use script_lines::InputBuffer;
 use script_log::{Reader, RunFault, answer_lines};
 use std::alloc::Global;
@@ -50,7 +50,7 @@ fn end_log<H: Host>(outcome: &Result<(), RunFault>, log: Log<H>) -> H
 ///   disk was sent.
 /// - `OutOfMemory` if memory is refused. The replies to the lines before were sent. At most one line
 ///   was read that has no reply.
-pub fn answer_restored<J: JobRepository, R: Reader<H>, H: Host, const TAGS: bool>(
+pub fn answer_restored<J: RowRepository, R: Reader<H>, H: Host, const TAGS: bool>(
     alloc: Global,
     input: &mut InputBuffer,
     source: &mut R,
@@ -59,7 +59,7 @@ pub fn answer_restored<J: JobRepository, R: Reader<H>, H: Host, const TAGS: bool
 ) -> (Result<(), RunFault>, H)
     requires settled { IsSettled H.seen H.heard H.may_leave log }
     requires nothing_waits { waiting_in log ≡ [] }
-    requires answers { Answers TAGS J.limit J.stands engine (history_of (records_of (H.seen log.host))) }
+    requires answers { Answers TAGS J.limit J.rows engine (history_of (records_of (H.seen log.host))) }
 
     // The reader is called only after the listener has heard the replies to all lines that were
     // delivered whole.

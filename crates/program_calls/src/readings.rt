@@ -4,8 +4,8 @@ ghost use Rattle.batch_history.specs.Legal.{most_operations};
 
 use anyhow::{Result, bail};
 use call_lines::{Line, Script, echoed, tell_refused, tell_text, told};
-use job_repository::JobRepository;
 use jsl_json::read_catalogue;
+use row_repository::RowRepository;
 use script_engine::{
     Counted, EngineFault, Line as Read, Lines, Summary, answer_script, fault_text, read_start,
     run_script,
@@ -137,7 +137,7 @@ fn tell_ran<R: Print>(
 }
 
 /// Runs a script. The capacity for its replies is requested before the mark.
-pub fn run_whole<J: JobRepository, R: Print + AllocGlobal>(
+pub fn run_whole<J: RowRepository, R: Print + AllocGlobal>(
     rt: &R,
     script: Script<'_>,
 ) -> Result<bool>
@@ -156,7 +156,7 @@ pub fn run_whole<J: JobRepository, R: Print + AllocGlobal>(
 }
 
 /// Answers a script that is a slice of bytes.
-pub fn answer_whole<J: JobRepository, R: Print + AllocGlobal>(
+pub fn answer_whole<J: RowRepository, R: Print + AllocGlobal>(
     rt: &R,
     script: Script<'_>,
 ) -> Result<bool>

@@ -4,6 +4,7 @@ pub use Rattle.script_lines.specs.Cut
 pub use Rattle.script_lines.specs.Lines
 pub use Rattle.script_lines.specs.Unread
 pub mod Faults
+pub mod ByRows
 pub mod Script
 pub mod Standing
 pub mod Summaries

@@ -1,36 +1,20 @@
 -- The summary of a script, by the kinds of its lines.
 use Rattle.std.specs.Prelude.{ℕ, ◌+◌, ◌-◌, ◌^◌, ◌==◌, min, List, [], ◌∷◌, length, count_by, Bool, true, false, Result, Ok, Err, if◌then◌else◌}
-use Rattle.batch_ids.specs.declared.refusal.Refusal.{Refusal}
 use Rattle.jsl_model.specs.Jobs.{JobTree}
 use Rattle.jsl_json.specs.declared.fault.ReadFault.{ReadFault}
-use Rattle.batch_history.specs.Answers.{answer}
 use Rattle.batch_history.specs.Legal.{most_operations}
-use Rattle.batch_history.specs.Replies.{reply}
-use Rattle.batch_history.specs.Rows.{History}
-use Rattle.script_text.specs.declared.command.Command.{Command}
-use Rattle.script_text.specs.declared.command.Command.TheVariants.{BadLine, TextTooLong, Act, Ask}
+use Rattle.batch_history.specs.Rows.{History, rows}
 use Rattle.script_engine.specs.declared.summary.Kind.{Kind}
 use Rattle.script_engine.specs.declared.summary.Kind.TheVariants.{Empty, Accepted, Refused, Bad}
 use Rattle.script_engine.specs.declared.summary.Summary.{Summary}
-use Rattle.script_engine.specs.Script.{command_at, line_after, begin, catalogue_at, entries_of_lines}
+use Rattle.script_engine.specs.ByRows.{line_kind_by}
+use Rattle.script_engine.specs.Script.{line_after, begin, catalogue_at, entries_of_lines}
 
 -- The kinds of lines
 
--- the kind of a call or a query with this result
-abbrev pub kind_of : {R : Type 0} → Result R Refusal → Kind
-kind_of (Ok answered) = Accepted
-kind_of (Err refusal) = Refused
-
--- the kind of a command after a history
-abbrev pub kind_for : History → Command → Kind
-kind_for h BadLine = Bad
-kind_for h TextTooLong = Refused
-kind_for h (Act by at call) = kind_of (reply most_operations h by call)
-kind_for h (Ask query) = kind_of (answer h query)
-
 -- the kind of a line after a history
-unfoldable pub line_kind : History → List ℕ → Kind
-line_kind h line = if length line == 0 then Empty else kind_for h (command_at line)
+abbrev pub line_kind : History → List ℕ → Kind
+line_kind h line = line_kind_by most_operations (rows h) line
 
 -- the kinds of lines, one after another
 abbrev pub kinds : History → List (List ℕ) → List Kind

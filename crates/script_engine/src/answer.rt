@@ -1,19 +1,16 @@
 ghost use Rattle.std.specs.Prelude.{◌≡◌, ◌≤◌, List, ℕ, Result, Err, IfOk, OnOk, length};
 ghost use Rattle.batch_history.specs.Due.{IsDue};
-ghost use Rattle.batch_history.specs.Rows.{History};
 ghost use Rattle.script_lines.specs.Lines.{Shows};
 ghost use Rattle.script_lines.specs.declared.line.TheConstants.{MAX_LINE};
 ghost use Rattle.script_text.specs.declared.command.Command.TheVariants.{Act, Ask};
 ghost use Rattle.script_text.specs.Answers.{answer_text};
 ghost use Rattle.script_text.specs.Replies.{bad_line_text, reply_text};
-ghost use Rattle.script_engine.specs.Standing.{Stands};
-ghost use Rattle.script_engine.specs.Script.{line_text, line_after, text_for, history_for};
-ghost use Rattle.script_engine.specs.Summaries.{kind_for, kind_of, line_kind};
+ghost use Rattle.script_engine.specs.ByRows.{kind_by, kind_of, line_kind_by, line_rows_by, line_text_by, rows_by, text_by};
 ghost use Rattle.script_engine.specs.declared.summary.Kind.TheVariants.{Refused, Bad};
 
 use crate::summary::Kind;
 use batch_ids::{Moment, OutOfMemory, Refusal};
-use job_repository::{Answer, Call, JobRepository, Query, Reply};
+use row_repository::{Answer, Call, Query, Reply, RowRepository};
 use script_lines::Line;
 use script_text::{Command, CommandReader, answer_text, bad_line_text, reply_text};
 use std::alloc::{AllocError, Global};
@@ -27,21 +24,20 @@ pub struct Answered {
     pub kind: Kind,
 }
 
-/// Replies to a line after the operations before it. After an `Err` the repository's history is not
-/// determined.
-#[tactic(auto, unfolding(crate::specs::Script::line_text, crate::specs::Script::line_after, crate::specs::Summaries::line_kind))]
-pub(crate) fn answer<J: JobRepository>(
+/// Replies to a line by the rows. After an `Err` the repository's rows are not determined.
+#[tactic(auto, unfolding(crate::specs::ByRows::line_text_by, crate::specs::ByRows::line_rows_by, crate::specs::ByRows::line_kind_by))]
+pub(crate) fn answer<J: RowRepository>(
     alloc: Global,
     commands: &mut CommandReader,
     repository: &mut J,
     line: &Line,
 ) -> Result<Answered, OutOfMemory>
-    ensures text { (h : History) → Stands J.limit (J.stands repository.old) h
-        → IfOk result (λ answered. (bytes : List ℕ) → Shows line.now bytes → answered.text.items ≡ line_text h bytes) }
-    ensures kind { (h : History) → Stands J.limit (J.stands repository.old) h
-        → IfOk result (λ answered. (bytes : List ℕ) → Shows line.now bytes → answered.kind ≡ line_kind h bytes) }
-    ensures after { (h : History) → Stands J.limit (J.stands repository.old) h
-        → OnOk result ((bytes : List ℕ) → Shows line.now bytes → Stands J.limit (J.stands repository.new) (line_after h bytes)) }
+    ensures text { IfOk result (λ answered. (bytes : List ℕ) → Shows line.now bytes
+        → answered.text.items ≡ line_text_by J.limit (J.rows repository.old) bytes) }
+    ensures kind { IfOk result (λ answered. (bytes : List ℕ) → Shows line.now bytes
+        → answered.kind ≡ line_kind_by J.limit (J.rows repository.old) bytes) }
+    ensures after { OnOk result ((bytes : List ℕ) → Shows line.now bytes
+        → J.rows repository.new ≡ line_rows_by J.limit (J.rows repository.old) bytes) }
 {
     match line {
         Line::Whole(bytes) => answer_whole(alloc, commands, repository, bytes),
@@ -49,25 +45,25 @@ pub(crate) fn answer<J: JobRepository>(
     }
 }
 
-/// Replies to a whole line, without its line feed, after the operations before it. The line has at
-/// most [`MAX_LINE`](crate::MAX_LINE) bytes. An empty line has an empty reply.
+/// Replies to a whole line, without its line feed, by the rows of the operations before it. The line
+/// has at most [`MAX_LINE`](crate::MAX_LINE) bytes. An empty line has an empty reply.
 ///
 /// # Errors
 ///
-/// Returns `OutOfMemory` if memory is refused. The repository's history is not determined then.
-#[tactic(auto, unfolding(crate::specs::Script::line_text, crate::specs::Script::line_after, crate::specs::Summaries::line_kind))]
-pub fn answer_whole<J: JobRepository>(
+/// Returns `OutOfMemory` if memory is refused. The repository's rows are not determined then.
+#[tactic(auto, unfolding(crate::specs::ByRows::line_text_by, crate::specs::ByRows::line_rows_by, crate::specs::ByRows::line_kind_by))]
+pub fn answer_whole<J: RowRepository>(
     alloc: Global,
     commands: &mut CommandReader,
     repository: &mut J,
     bytes: &[u8],
 ) -> Result<Answered, OutOfMemory>
-    ensures text { length bytes.now ≤ MAX_LINE → (h : History) → Stands J.limit (J.stands repository.old) h
-        → IfOk result (λ answered. answered.text.items ≡ line_text h bytes.now) }
-    ensures kind { length bytes.now ≤ MAX_LINE → (h : History) → Stands J.limit (J.stands repository.old) h
-        → IfOk result (λ answered. answered.kind ≡ line_kind h bytes.now) }
-    ensures after { length bytes.now ≤ MAX_LINE → (h : History) → Stands J.limit (J.stands repository.old) h
-        → OnOk result (Stands J.limit (J.stands repository.new) (line_after h bytes.now)) }
+    ensures text { length bytes.now ≤ MAX_LINE → IfOk result (λ answered. answered.text.items
+        ≡ line_text_by J.limit (J.rows repository.old) bytes.now) }
+    ensures kind { length bytes.now ≤ MAX_LINE → IfOk result (λ answered. answered.kind
+        ≡ line_kind_by J.limit (J.rows repository.old) bytes.now) }
+    ensures after { length bytes.now ≤ MAX_LINE → OnOk result (J.rows repository.new
+        ≡ line_rows_by J.limit (J.rows repository.old) bytes.now) }
 {
     if bytes.is_empty() {
         return Ok(Answered {
@@ -80,14 +76,17 @@ pub fn answer_whole<J: JobRepository>(
 }
 
 /// Replies to a command.
-fn answer_command<J: JobRepository>(
+fn answer_command<J: RowRepository>(
     alloc: Global,
     repository: &mut J,
     command: Command,
 ) -> Result<Answered, OutOfMemory>
-    ensures text { (h : History) → Stands J.limit (J.stands repository.old) h → IfOk result (λ answered. answered.text.items ≡ text_for h command) }
-    ensures kind { (h : History) → Stands J.limit (J.stands repository.old) h → IfOk result (λ answered. answered.kind ≡ kind_for h command) }
-    ensures after { (h : History) → Stands J.limit (J.stands repository.old) h → OnOk result (Stands J.limit (J.stands repository.new) (history_for h command)) }
+    ensures text { IfOk result (λ answered. answered.text.items
+        ≡ text_by J.limit (J.rows repository.old) command) }
+    ensures kind { IfOk result (λ answered. answered.kind
+        ≡ kind_by J.limit (J.rows repository.old) command) }
+    ensures after { OnOk result (J.rows repository.new
+        ≡ rows_by J.limit (J.rows repository.old) command) }
 {
     match command {
         Command::BadLine => reply_bad_line(alloc),
@@ -141,16 +140,19 @@ fn kind_of<R>(reply: &Result<R, Refusal>) -> Result<Kind, OutOfMemory>
 }
 
 /// Replies to a call.
-fn act<J: JobRepository>(
+fn act<J: RowRepository>(
     alloc: Global,
     repository: &mut J,
     by: u64,
     at: Moment,
     call: Call,
 ) -> Result<Answered, OutOfMemory>
-    ensures text { (h : History) → Stands J.limit (J.stands repository.old) h → IfOk result (λ answered. answered.text.items ≡ text_for h (Act by at call)) }
-    ensures kind { (h : History) → Stands J.limit (J.stands repository.old) h → IfOk result (λ answered. answered.kind ≡ kind_for h (Act by at call)) }
-    ensures after { (h : History) → Stands J.limit (J.stands repository.old) h → OnOk result (Stands J.limit (J.stands repository.new) (history_for h (Act by at call))) }
+    ensures text { IfOk result (λ answered. answered.text.items
+        ≡ text_by J.limit (J.rows repository.old) (Act by at call)) }
+    ensures kind { IfOk result (λ answered. answered.kind
+        ≡ kind_by J.limit (J.rows repository.old) (Act by at call)) }
+    ensures after { OnOk result (J.rows repository.new
+        ≡ rows_by J.limit (J.rows repository.old) (Act by at call)) }
 {
     let reply = repository.apply(by, &call, at);
     let answered = reply_line(alloc, &reply);
@@ -159,13 +161,15 @@ fn act<J: JobRepository>(
 }
 
 /// Replies to a query.
-fn ask<J: JobRepository>(
+fn ask<J: RowRepository>(
     alloc: Global,
     repository: &J,
     query: &Query,
 ) -> Result<Answered, OutOfMemory>
-    ensures text { (h : History) → Stands J.limit (J.stands repository.now) h → IfOk result (λ answered. answered.text.items ≡ text_for h (Ask query.now)) }
-    ensures kind { (h : History) → Stands J.limit (J.stands repository.now) h → IfOk result (λ answered. answered.kind ≡ kind_for h (Ask query.now)) }
+    ensures text { IfOk result (λ answered. answered.text.items
+        ≡ text_by J.limit (J.rows repository.now) (Ask query.now)) }
+    ensures kind { IfOk result (λ answered. answered.kind
+        ≡ kind_by J.limit (J.rows repository.now) (Ask query.now)) }
 {
     let answer = repository.ask(query);
     let answered = answer_line(alloc, &answer);

@@ -2,6 +2,7 @@ ghost use Rattle.std.specs.Prelude.{◌≡◌, ◌≤◌, [], length, Err, IfOk,
 ghost use Rattle.script_lines.specs.declared.input_buffer.TheConstants.{MAX_READS};
 ghost use Rattle.script_engine.specs.declared.fault.EngineFault.TheVariants.{Read};
 ghost use Rattle.batch_history.specs.Legal.{most_numbered, most_operations};
+ghost use Rattle.batch_history.specs.Rows.{rows};
 ghost use Rattle.script_engine.specs.Script.{begin};
 ghost use Rattle.script_engine.specs.InTurn.{MayReadInTurn};
 ghost use Rattle.script_engine.specs.Ran.{Ran, RanInMemory, RanSoFar, HoldsReplies, has_writer_failed};
@@ -11,8 +12,8 @@ use crate::catalogue::{catalogue_in, tell_fault};
 use crate::fault::EngineFault;
 use crate::summary::Summary;
 use batch_ids::OutOfMemory;
-use job_repository::JobRepository;
 use jsl_model::Catalogue;
+use row_repository::RowRepository;
 use script_lines::{Counted, InputBuffer, OutputBuffer, Sink, SliceSource, SourceInTurn};
 use script_text::CommandReader;
 use std::alloc::{AllocError, Global};
@@ -22,12 +23,12 @@ use std::alloc::{AllocError, Global};
 /// # Errors
 ///
 /// Returns `OutOfMemory` if memory is refused. The catalogue is dropped.
-pub fn boxed_repository<J: JobRepository>(
+pub fn boxed_repository<J: RowRepository>(
     alloc: Global,
     catalogue: Catalogue,
 ) -> Result<Box<J>, OutOfMemory>
     requires { J.limit ≤ most_numbered }
-    ensures { IfOk result (λ repository. J.stands (box_value repository) (begin catalogue)) }
+    ensures { IfOk result (λ repository. J.rows (box_value repository) ≡ rows (begin catalogue)) }
 {
     match Box::new(alloc, J::new(alloc, catalogue)?) {
         Ok(repository) => Ok(repository),
@@ -39,7 +40,7 @@ pub fn boxed_repository<J: JobRepository>(
 }
 
 /// Runs a script, and leaves the last replies in the output.
-fn run<J: JobRepository, R: SourceInTurn<W>, W: Sink>(
+fn run<J: RowRepository, R: SourceInTurn<W>, W: Sink>(
     alloc: Global,
     reader: &mut R,
     output: &mut OutputBuffer,
@@ -101,7 +102,7 @@ fn has_writer_failed(outcome: &Result<Summary, EngineFault>) -> bool
 ///   to the complete lines were written.
 /// - `Write` if the writer failed. It has a beginning of the replies to the lines read.
 /// - `OutOfMemory` if memory is refused. The replies to the lines before were written.
-pub fn run_script<J: JobRepository, R: SourceInTurn<W>, W: Sink>(
+pub fn run_script<J: RowRepository, R: SourceInTurn<W>, W: Sink>(
     alloc: Global,
     reader: &mut R,
     writer: &mut W,
@@ -128,7 +129,7 @@ pub fn run_script<J: JobRepository, R: SourceInTurn<W>, W: Sink>(
 /// After `OutOfMemory` the text has the replies to the lines before. After `Write`, which means
 /// that memory for the text was refused, it has a beginning of them. No read fails. `Read` is
 /// returned only for a script of at least [`MAX_READS`](crate::MAX_READS) bytes.
-pub fn answer_script<J: JobRepository>(
+pub fn answer_script<J: RowRepository>(
     alloc: Global,
     script: &[u8],
 ) -> (Vec<u8>, Result<Summary, EngineFault>)

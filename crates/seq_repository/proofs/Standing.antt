@@ -4,6 +4,7 @@ use Rattle.batch_ids.specs.declared.refusal.Refusal.{Refusal}
 use Rattle.batch_history.proofs.Legal.{legal_grown}
 use Rattle.batch_history.proofs.Legality.{rows_grown}
 use Rattle.batch_history.specs.NextRows.{rows_after}
+use Rattle.batch_history.specs.Answers.{answer, answer_by}
 use Rattle.batch_history.specs.Due.{IsDue}
 use Rattle.batch_history.specs.Replies.{is_nothing, reply, reply_by}
 use Rattle.batch_history.specs.Rows.{History, Rows}
@@ -11,6 +12,8 @@ use Rattle.batch_history.specs.Legal.{IsLegal, after_call, grown}
 use Rattle.batch_history.specs.declared.call.Call.{Call}
 use Rattle.batch_history.specs.declared.call.Entry.{Entry}
 use Rattle.batch_history.specs.declared.call.Reply.{Reply}
+use Rattle.batch_history.specs.declared.query.Answer.{Answer}
+use Rattle.batch_history.specs.declared.query.Query.{Query}
 use Rattle.seq_repository.proofs.Replying.{next_due, next_entered}
 use Rattle.seq_repository.specs.Kept.{Kept, rows_in, StandsFor, IsNext}
 
@@ -18,6 +21,11 @@ use Rattle.seq_repository.specs.Kept.{Kept, rows_in, StandsFor, IsNext}
 pub due_for : (limit : ℕ) (kept : Kept) (h : History) (who : ℕ) (call : Call) (result : Result Reply Refusal) → StandsFor kept h
     → IsDue result (reply_by limit (rows_in kept) who call) → IsDue result (reply limit h who call)
 due_for limit kept h who call result stands due = subst (λ (r : Rows). IsDue result (reply_by limit r who call)) stands due
+
+-- so is an answer
+pub answer_for : (kept : Kept) (h : History) (query : Query) (result : Result Answer Refusal) → StandsFor kept h
+    → IsDue result (answer_by (rows_in kept) query) → IsDue result (answer h query)
+answer_for kept h query result stands due = subst (λ (r : Rows). IsDue result (answer_by r query)) stands due
 
 -- it stands for the history with an operation that it enters
 pub stands_after : (limit : ℕ) (kept new : Kept) (h : History) (e : Entry) → IsLegal limit h → StandsFor kept h

@@ -7,6 +7,7 @@ mod after;
 mod agenda;
 mod answers;
 mod bound;
+mod bound_rows;
 mod cursors;
 mod entering;
 mod replies;

@@ -1,5 +1,5 @@
 ghost use Rattle.std.specs.Prelude.{◌≡◌, ◌≤◌, [], IfOk, IsOk, OnErr, OnOk, Ok, if◌then◌else◌};
-ghost use Rattle.batch_history.specs.Answers.{answer};
+ghost use Rattle.batch_history.specs.Answers.{answer, answer_by};
 ghost use Rattle.batch_history.specs.Due.{IsDue};
 ghost use Rattle.batch_history.specs.Legal.{IsLegal, after_call, grown, most_numbered};
 ghost use Rattle.batch_history.specs.NextRows.{rows_after};
@@ -194,9 +194,22 @@ impl<const LIMIT: u64> Repository<LIMIT> {
     /// # Errors
     ///
     /// The query's refusal if it applies. It may return `OutOfMemory` instead of any result.
-    #[tactic(auto, using(crate::proofs::Metering::within_limit))]
+    #[tactic(auto, using(crate::proofs::Standing::answer_for))]
     pub fn ask(&self, query: &Query) -> Result<Answer, Refusal>
         ensures { (h : History) → StandsFor self.now h → IsDue result (answer h query.now) }
+    {
+        self.ask_by_rows(query)
+    }
+
+    /// Returns the answer to a query, as `ask` does. Contracts say what follows from the rows, and
+    /// not from a history that they come from.
+    ///
+    /// # Errors
+    ///
+    /// As those of `ask`.
+    #[tactic(auto, using(crate::proofs::Metering::within_limit))]
+    pub fn ask_by_rows(&self, query: &Query) -> Result<Answer, Refusal>
+        ensures { IsDue result (answer_by (rows_in self.now) query.now) }
     {
         answers::answer(self.alloc, &self.catalogue, &self.records, query)
     }

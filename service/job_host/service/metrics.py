@@ -15,7 +15,7 @@ from job_host.service.keepers.keeper import Keeper
 from job_host.service.keepers.open_items import OpenWanted, open_items
 from job_host.service.pages import Page
 from job_host.service.problems import Problem
-from job_host.service.settings import MOST_OPERATIONS
+from job_host.service.settings import HistoryBounds
 from job_host.service.terms.term import Observers
 
 NO_ROWS = Page(0, 0)
@@ -25,7 +25,8 @@ COMMIT_BUCKETS = (0.0005, 0.001, 0.002, 0.005, 0.01, 0.02, 0.05, 0.1, 0.2, 0.5, 
 class Metrics:
     """One registry for one service."""
 
-    def __init__(self) -> None:
+    def __init__(self, history: HistoryBounds) -> None:
+        self._most = history.most
         self.registry = CollectorRegistry()
         given: dict[str, Any] = {"registry": self.registry}
         self.requests = Counter("jobhost_requests", "Requests by route and status", ["method", "route", "status"], **given)
@@ -56,7 +57,7 @@ class Metrics:
     async def text(self, keeper: Keeper) -> bytes:
         """All metrics. The counts by batch status are asked for."""
         self.operations.set(keeper.committed)
-        self.full.set(keeper.committed / MOST_OPERATIONS)
+        self.full.set(keeper.committed / self._most)
         self.leads.set(1 if keeper.role == "leader" else 0)
         self.epoch.set(keeper.epoch)
         self.waiting.set(keeper.term.desk.waiting if keeper.term else 0)

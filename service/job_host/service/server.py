@@ -28,7 +28,7 @@ from job_host.service.metrics import Metrics
 from job_host.service.problems import Problem, unavailable
 from job_host.service.routes.console import EVENTS_PATH, ConsoleFiles, show_events
 from job_host.service.routes.table import ROUTES
-from job_host.service.settings import MOST_OPERATIONS, ServeSettings
+from job_host.service.settings import ServeSettings
 from job_host.service.terms.leases import Leases
 
 log = logging.getLogger(__name__)
@@ -82,7 +82,7 @@ class Service:
     def __init__(self, settings: ServeSettings) -> None:
         self.settings = settings
         self.access = Access(settings)
-        self.metrics = Metrics()
+        self.metrics = Metrics(settings.history)
         self.keeper = make_keeper(settings, self.metrics)
         self.browsers = Browsers(settings.advertise)
         self.watchers = Places(settings.bounds.watchers, "consoles follow already")
@@ -204,7 +204,7 @@ class Service:
     def _health(self) -> dict[str, object]:
         keeper = self.keeper
         told = {"role": keeper.role, "epoch": keeper.epoch, "operations": keeper.committed, "leader": keeper.leader_url}
-        warns = keeper.committed >= self.settings.warn_from
+        warns = keeper.committed >= self.settings.history.warn_from
         return {**told, "warning": "HistoryAlmostFull"} if warns else told
 
     async def _probe_live(self, request: web.Request) -> web.StreamResponse:
@@ -226,9 +226,9 @@ class Service:
     async def _warn(self) -> None:
         """Says once a minute that the history fills."""
         while True:
-            operations = self.keeper.committed
-            if operations >= self.settings.warn_from:
-                log.warning("the history has %d of %d operations: begin a new one soon", operations, MOST_OPERATIONS)
+            operations, history = self.keeper.committed, self.settings.history
+            if operations >= history.warn_from:
+                log.warning("the history has %d of %d operations: begin a new one soon", operations, history.most)
             await asyncio.sleep(WARN_SECONDS)
 
     async def listen(self) -> None:

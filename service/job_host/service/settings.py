@@ -8,7 +8,18 @@ from pathlib import Path
 from job_host.protocol.addresses import DEFAULT_PORT
 from job_host.protocol.bounds import LOG_BYTES, PAGE_OF_LARGE_ROWS, PAGE_SIZE, REQUESTS_AT_ONCE
 
-MOST_OPERATIONS = 1_000_000
+
+@dataclass(frozen=True)
+class HistoryBounds:
+    """How many operations a history holds, and from how many on the service warns, and starts and restarts nothing."""
+
+    most: int
+    warn_from: int
+    refuse_from: int
+
+
+LOG_BOUNDS = HistoryBounds(4_294_967_296, 4_200_000_000, 4_290_000_000)
+TABLE_BOUNDS = HistoryBounds(1_000_000, 900_000, 990_000)
 
 
 @dataclass(frozen=True)
@@ -62,6 +73,10 @@ class ServeSettings:
     lease: float = 30.0
     takeover_after: float = 5.0
     commit_timeout: float = 30.0
-    warn_from: int = 900_000
-    refuse_from: int = 990_000
+    other_history: HistoryBounds | None = None
     bounds: Bounds = field(default_factory=Bounds)
+
+    @property
+    def history(self) -> HistoryBounds:
+        """The bounds of the history. A log holds more than a table of PostgreSQL."""
+        return self.other_history or (TABLE_BOUNDS if self.postgres else LOG_BOUNDS)

@@ -205,5 +205,12 @@ def check_permissions(program: Program, folder: Path) -> None:
 
 
 # Trials of a log at a path in an empty folder, and those that make folders of their own.
-OF_A_LOG = [check_in_use, check_locked, check_rivals, check_draft, check_cut_by_another, check_links]
+def check_long_history(program: Program, log: Path) -> None:
+    """A log takes more operations than the 1,000,000 of a script without one."""
+    stops = b'{"do":"stop","by":1,"at":0,"execution":1}\n' * 999_999
+    ended = program.over(log, SCRIPT + CLAIM + b"\n" + stops)
+    want("operation 1,000,001 of a log", (ended.status, ended.output[-14:]), (DONE, b'{"done":true}\n'))
+
+
+OF_A_LOG = [check_in_use, check_locked, check_rivals, check_draft, check_cut_by_another, check_links, check_long_history]
 OF_FOLDERS = [check_names, check_refused_words, check_unavailable]

@@ -20,7 +20,7 @@ from job_host.service.http.access import NAME, Access, Caller
 from job_host.service.keepers.keeper import Keeper
 from job_host.service.pages import USUAL_SIZE, Page
 from job_host.service.problems import Problem, bad_request
-from job_host.service.settings import MOST_OPERATIONS, Bounds, ServeSettings
+from job_host.service.settings import Bounds, ServeSettings
 
 KEY = re.compile(r"[\x21-\x7e]+")
 NUMBER = re.compile(r"[0-9]{1,20}")
@@ -150,8 +150,9 @@ class Asked:
     def page(self, most: int) -> Page:
         """The page of a list that is meant, with so many rows at most. It begins within as many as there can be."""
         page, size = self.query_number("page", 0), self.query_number("pageSize", USUAL_SIZE)
-        if not 0 < size <= most or page * size > MOST_OPERATIONS:
-            raise bad_request(f"a page has 1 to {most} rows, and begins within the first {MOST_OPERATIONS}")
+        there = self.host.settings.history.most
+        if not 0 < size <= most or page * size > there:
+            raise bad_request(f"a page has 1 to {most} rows, and begins within the first {there}")
         return Page(page * size, size)
 
     def page_of_large_rows(self) -> Page:

@@ -182,7 +182,7 @@ class EmbeddedKeeper(Keeper):
         most = self._settings.bounds.clients
         clients = await beside.do(lambda store: store.clients(most))
         self._sessions = Sessions(clients, most, engine.last_session, engine.holding)
-        settings = TermSettings(self._settings.refuse_from)
+        settings = TermSettings(self._settings.history.refuse_from)
         term = EmbeddedTerm(beside, self.history, engine, self._sessions, settings, self._observers)
         self.term, self.role, self.epoch = term, "leader", self.epoch + 1
         log.warning("serves after %d operations", engine.entered)

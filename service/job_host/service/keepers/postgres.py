@@ -218,7 +218,7 @@ class PostgresKeeper(Keeper):
             most = self._settings.bounds.clients
             self._sessions = Sessions(await store.clients(most), most, engine.last_session, engine.holding)
         self.history = (await store.leader()).history
-        settings = TermSettings(self._settings.refuse_from, beat)
+        settings = TermSettings(self._settings.history.refuse_from, beat)
         term = PostgresTerm(store, epoch, engine, self._sessions, settings, self._observers)
         self.term, self.role, self.epoch, self._bring = term, "leader", epoch, None
         self.leader_url = self._settings.advertise

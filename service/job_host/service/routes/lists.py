@@ -23,7 +23,6 @@ from job_host.service.pages import USUAL_SIZE
 from job_host.service.problems import Problem, bad_request
 from job_host.service.routes import views
 from job_host.service.routes.jobs import answer_of, instances_of
-from job_host.service.settings import MOST_OPERATIONS
 
 WORDS_OF_EXECUTIONS = ("status", "jobName", "search", "mostRecent", "details", "createdFrom", "createdUntil", *PAGE_WORDS)
 # In milliseconds.
@@ -207,13 +206,13 @@ def work_item(ended: Ended | None, by: HeldBy) -> dict[str, Any]:
 
 async def show_history(asked: Asked) -> web.StreamResponse:
     """How full the history is, and which instance this is."""
-    keeper, settings = asked.keeper, asked.host.settings
+    keeper, history = asked.keeper, asked.host.settings.history
     told = {
         "history": keeper.history,
         "operations": keeper.committed,
-        "mostOperations": MOST_OPERATIONS,
-        "warnFrom": settings.warn_from,
-        "refuseFrom": settings.refuse_from,
+        "mostOperations": history.most,
+        "warnFrom": history.warn_from,
+        "refuseFrom": history.refuse_from,
         "role": keeper.role,
         "epoch": keeper.epoch,
         "leader": keeper.leader_url,

@@ -12,7 +12,6 @@ from job_host.service.http.requests import PAGE_WORDS, Asked, Route
 from job_host.service.problems import Problem, bad_request
 from job_host.service.routes.jobs import answer_of
 from job_host.service.routes.lists import search_of
-from job_host.service.settings import MOST_OPERATIONS
 from job_host.service.terms.calls import LogPage, WorkLog
 
 WORDS_OF_LOGS = ("type", "stepName", "search", "sizes", *PAGE_WORDS, "atLeast")
@@ -62,7 +61,7 @@ async def show_log(asked: Asked) -> web.StreamResponse:
     work, is_text = asked.path_number(), wants_text(asked)
     offset, known = asked.query_number("offset", 0), asked.request.query.get("digest")
     await asked.keeper.reach(asked.at_least)
-    log = await asked.keeper.log_of(work) if work <= MOST_OPERATIONS else None
+    log = await asked.keeper.log_of(work) if work <= asked.host.settings.history.most else None
     if log is None:
         raise Problem("NoSuchWork", 404, "no log of this work item is kept")
     answers = await asked.keeper.ask([query("job_instance", execution=log.execution)], asked.at_least)

@@ -13,9 +13,9 @@ returns-in-Ok-new_file-clause-answers g c =
     let line = c.args.line.now in
     let ran = c.in-Ok.ran in
     let is = c.deref.ensures.value in
-    answers-begun tags g.J.JobRepository.limit g.J.JobRepository.stands ran.engine (records_of c.args.file.items) (records_of c.in-Ok-new_file.made.file.bytes.items) line ran.grown
+    answers-begun tags g.J.RowRepository.limit g.J.RowRepository.rows ran.engine (records_of c.args.file.items) (records_of c.in-Ok-new_file.made.file.bytes.items) line ran.grown
     (subst (λ (file : List ℕ). GoesOnFrom (records_of file) line ran.grown) is c.in-Ok.ensures.goes_on) c.in-Ok-new_file.ensures.records
-    (subst (λ (file : List ℕ). Answers tags g.J.JobRepository.limit g.J.JobRepository.stands ran.engine (replayed line (records_of file))) is c.in-Ok.ensures.answers)
+    (subst (λ (file : List ℕ). Answers tags g.J.RowRepository.limit g.J.RowRepository.rows ran.engine (replayed line (records_of file))) is c.in-Ok.ensures.answers)
 
 pub returns-in-Ok-new_file-clause-histories : goal.returns-in-Ok-new_file-clause-histories
 returns-in-Ok-new_file-clause-histories g c kept has =

@@ -5,7 +5,7 @@ use Rattle.script_lines.specs.Lines.{LineRead}
 use Rattle.script_lines.proofs.Cutting.{cut_bounded}
 use Rattle.script_engine.proofs.Running.{asks_first, asks_next, begins, goes_on, ends, no_memory, line_failed, put_failed}
 use Rattle.script_engine.specs.Script.{begin}
-use Rattle.script_engine.proofs.Applying.{begun}
+use Rattle.script_engine.proofs.Applying.{begun, count_at, kind_at, stands_after, text_at}
 use Rattle.script_engine.proofs.Tallying.{nothing-counted}
 use Rattle.script_engine.proofs.Opening.{nothing_done, nothing_asked, first_line, first_failed, refused}
 use Rattle.script_engine.proofs.run.run.Goals as goal
@@ -70,7 +70,7 @@ returns-in_err-put g c =
     let r = err_from_is_err_and c.from_residual-in_err-put.result c.from_residual-in_err-put.ensures.1 in
     let put = c.in_err-put.ensures in
     rw (r.1, r.2) (put_failed _ _ _ _ _ _ _ _ _ _ _ _ _ _ c.in-Some.line _ put.err.0 c.loop-commands.invariant.running read line.passed_on line.grown line.prompt
-    (λ bytes shown. c.deref.ensures.value ∙ c.in_ok-answered.ensures.text c.loop-commands.invariant.history c.loop-commands.invariant.stands bytes shown) put.err.1 put.err_failures)
+    (λ bytes shown. c.deref.ensures.value ∙ (c.in_ok-answered.ensures.text bytes shown ∙ text_at _ _ c.loop-commands.invariant.history bytes c.loop-commands.invariant.stands)) put.err.1 put.err_failures)
 
 pub loop-commands-preserved-in_ok-put : goal.loop-commands-preserved-in_ok-put
 loop-commands-preserved-in_ok-put g c =
@@ -78,7 +78,7 @@ loop-commands-preserved-in_ok-put g c =
     let read = subst (λ (o : Option Line). LineRead (g.R.SourceInTurn.tape c.loop-commands.reader) (g.R.SourceInTurn.tape c.next_line-in-loop-commands.new.source) c.loop-commands.input c.next_line-in-loop-commands.new.self (Ok o)) c.in-Some.is line.line in
     let put = c.in_ok-put.ensures in
     goes_on _ _ _ _ _ _ _ _ _ _ _ _ _ _ _ _ c.in-Some.line _ _ c.loop-commands.invariant read line.passed_on line.grown line.prompt
-    (λ bytes shown. c.deref.ensures.value ∙ c.in_ok-answered.ensures.text c.loop-commands.invariant.history c.loop-commands.invariant.stands bytes shown) (λ bytes shown. c.in_ok-answered.ensures.after c.loop-commands.invariant.history c.loop-commands.invariant.stands bytes shown) (λ bytes shown. c.in_ok-answered.ensures.kind c.loop-commands.invariant.history c.loop-commands.invariant.stands bytes shown) c.count.ensures put.ok put.ok_grown put.ok_failures
+    (λ bytes shown. c.deref.ensures.value ∙ (c.in_ok-answered.ensures.text bytes shown ∙ text_at _ _ c.loop-commands.invariant.history bytes c.loop-commands.invariant.stands)) (λ bytes shown. stands_after _ _ _ c.loop-commands.invariant.history bytes c.loop-commands.invariant.stands (c.in_ok-answered.ensures.after bytes shown)) (λ bytes shown. c.in_ok-answered.ensures.kind bytes shown ∙ kind_at _ _ c.loop-commands.invariant.history bytes c.loop-commands.invariant.stands) c.count.ensures put.ok put.ok_grown put.ok_failures
 
 pub loop-commands-preserved : goal.loop-commands-preserved
 loop-commands-preserved g c =
@@ -86,10 +86,10 @@ loop-commands-preserved g c =
     let read = subst (λ (o : Option Line). LineRead (g.R.SourceInTurn.tape c.loop-commands.reader) (g.R.SourceInTurn.tape c.next_line-in-loop-commands.new.source) c.loop-commands.input c.next_line-in-loop-commands.new.self (Ok o)) c.in-Some.is line.line in
     let put = c.in_ok-put.ensures in
     goes_on _ _ _ _ _ _ _ _ _ _ _ _ _ _ _ _ c.in-Some.line _ _ c.loop-commands.invariant read line.passed_on line.grown line.prompt
-    (λ bytes shown. c.deref.ensures.value ∙ c.in_ok-answered.ensures.text c.loop-commands.invariant.history c.loop-commands.invariant.stands bytes shown) (λ bytes shown. c.in_ok-answered.ensures.after c.loop-commands.invariant.history c.loop-commands.invariant.stands bytes shown) (λ bytes shown. c.in_ok-answered.ensures.kind c.loop-commands.invariant.history c.loop-commands.invariant.stands bytes shown) c.count.ensures put.ok put.ok_grown put.ok_failures
+    (λ bytes shown. c.deref.ensures.value ∙ (c.in_ok-answered.ensures.text bytes shown ∙ text_at _ _ c.loop-commands.invariant.history bytes c.loop-commands.invariant.stands)) (λ bytes shown. stands_after _ _ _ c.loop-commands.invariant.history bytes c.loop-commands.invariant.stands (c.in_ok-answered.ensures.after bytes shown)) (λ bytes shown. c.in_ok-answered.ensures.kind bytes shown ∙ kind_at _ _ c.loop-commands.invariant.history bytes c.loop-commands.invariant.stands) c.count.ensures put.ok put.ok_grown put.ok_failures
 
 pub returns : goal.returns
 returns g c =
     let line = c.in_ok-line.ensures in
     let read = subst (λ (o : Option Line). LineRead (g.R.SourceInTurn.tape c.loop-commands.reader) (g.R.SourceInTurn.tape c.next_line-in-loop-commands.new.source) c.loop-commands.input c.next_line-in-loop-commands.new.self (Ok o)) c.in_default.is line.line in
-    ends _ _ _ _ _ _ _ _ _ _ _ _ _ c.loop-commands.invariant.running read line.passed_on line.grown line.prompt (c.len.ensures _ c.loop-commands.invariant.stands.stood)
+    ends _ _ _ _ _ _ _ _ _ _ _ _ _ c.loop-commands.invariant.running read line.passed_on line.grown line.prompt (c.len.ensures ∙ count_at _ _ _ c.loop-commands.invariant.stands)
