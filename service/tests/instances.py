@@ -15,6 +15,7 @@ from contextlib import asynccontextmanager
 from dataclasses import dataclass
 from pathlib import Path
 from typing import Any
+from urllib.parse import quote
 
 import aiohttp
 from postgres_server import free_port
@@ -50,10 +51,12 @@ class Caller:
             self.headers["Authorization"] = f"Bearer {token}"
 
     async def ask(self, method: str, path: str, body: Any = None, key: str | None = None, **headers: str) -> Answer:
+        """Asks with a body of JSON, or with one that is bytes."""
         given = {**self.headers, **({"Idempotency-Key": key} if key else {}), **headers}
+        sent: dict[str, Any] = {"data": body} if isinstance(body, bytes) else {"json": body}
         timeout = aiohttp.ClientTimeout(total=self.seconds)
         async with aiohttp.ClientSession(timeout=timeout) as session:
-            async with session.request(method, self.url + path, json=body, headers=given) as response:
+            async with session.request(method, self.url + path, headers=given, **sent) as response:
                 text = await response.text()
                 operations = response.headers.get("Batch-Operations")
                 told = json.loads(text) if "json" in response.content_type else text
@@ -80,6 +83,13 @@ class Caller:
 
     async def change(self, execution: int, action: str, key: str | None = None) -> Answer:
         return await self.ask("PUT", f"/batch/jobexecutions/{execution}?action={action}", key=key)
+
+    async def apply(
+        self, job: str, file: str, key: str | None = None, kind: str = "application/xml", words: str = ""
+    ) -> Answer:
+        """Applies the file of a job."""
+        path = f"/batch/jobs/{quote(job, safe='')}{words}"
+        return await self.ask("PUT", path, file.encode(), key, **{"Content-Type": kind})
 
     async def status(self, execution: int) -> str:
         return str((await self.ask("GET", f"/batch/jobexecutions/{execution}")).told["batchStatus"])

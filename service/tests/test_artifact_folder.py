@@ -12,6 +12,7 @@ from typing import Any, cast
 import pytest
 from instances import until
 
+from job_host.protocol import executables
 from job_host.protocol.client import Client
 from job_host.worker import folder, worker
 from job_host.worker.folder import ArtifactFolder, names_of
@@ -148,6 +149,27 @@ async def test_a_worker_ends_at_once_though_it_claims_nothing(artifacts: Path) -
 )
 def test_the_names_of_a_work_item(work: dict[str, Any], names: list[str]) -> None:
     assert names_of(work) == names
+
+
+def test_the_names_of_a_step(tmp_path: Path, caplog: pytest.LogCaptureFixture) -> None:
+    """Listeners and a checkpoint algorithm are wanted as the parts are."""
+    work = {"element": "copy", "kind": "chunk", "reader": "rows", "processor": None, "writer": "table"}
+    step = {"listeners": [{"ref": "audit", "use": "listener-1"}], "chunk": {"checkpoint-algorithm": {"ref": "hourly"}}}
+    assert names_of(work, step) == ["rows", "table", "hourly", "audit"]
+    for name in ("rows", "table", "audit"):
+        (tmp_path / name).touch(0o755)
+    one = ArtifactFolder(tmp_path)
+    one.note(work, step)
+    assert not one.may_claim() and "'hourly' of step 'copy' isn't in" in caplog.text
+    (tmp_path / "hourly").touch(0o755)
+    assert one.may_claim()
+
+
+@pytest.mark.parametrize("name", ["x" * 255, "x" * 256, "a/b", ".a", "a\0b", ""])
+def test_a_name_that_no_executable_has(tmp_path: Path, name: str) -> None:
+    with pytest.raises(executables.NoArtifact):
+        executables.find(tmp_path, name)
+    assert not executables.is_stoppable(tmp_path, name)
 
 
 def test_artifacts_are_told_at_first_after_a_change_and_now_and_then(tmp_path: Path, monkeypatch: pytest.MonkeyPatch) -> None:

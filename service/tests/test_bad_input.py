@@ -63,6 +63,7 @@ NUMBERS = [
     "",
     "é",
 ]
+NAMES = ["short", "none", "nightly@2", "%00", "..%2f..", "%ff", "é", "x" * 300]
 QUERIES = ["", "?action=stop", "?action=restart", "?action=abandon", "?action=finish", "?action=checkpoint", "?action=lose"]
 QUERIES += ["?action=heartbeat", "?action=%ff", "?page=-1", "?page=99999999999", "?pageSize=0", "?pageSize=x", "?jobName=%00"]
 QUERIES += [
@@ -183,7 +184,7 @@ def random_request(chance: random.Random) -> Sent:
         return Sent(chance.randbytes(chance.randrange(1, 400)), frozenset())
     method, path = chance.choice(KNOWN) if chance.random() < 0.7 else (chance.choice(METHODS), chance.choice(PATHS))
     numbers = NUMBERS[1:4] if chance.random() < 0.5 else NUMBERS
-    path = path.replace("{id}", chance.choice(numbers)) + chance.choice(QUERIES)
+    path = path.replace("{id}", chance.choice(numbers)).replace("{name}", chance.choice(NAMES)) + chance.choice(QUERIES)
     role = chance.choice([None, "wrong", "reader", "operator", "worker"])
     lines = [f"{method} {path} HTTP/1.1", "Host: localhost", "Connection: close"]
     if role is not None:

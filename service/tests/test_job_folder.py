@@ -174,7 +174,7 @@ def test_serve_has_a_file_or_a_folder(jobs: Path, capsys: pytest.CaptureFixture[
 
 def test_a_form_that_is_left_out_is_named(jobs: Path, capfd: pytest.CaptureFixture[str]) -> None:
     (jobs / "a.xml").write_text(JSL % ("first", f'<listeners><listener ref="timer"/></listeners>{STEP}'))
-    lost = 'a.xml:2:1: %s in job "first": <listeners> of "timer"%s: no listener is called'
+    lost = 'a.xml:2:1: %s in job "first": <listeners> of "timer"%s: no listener of a job is called, but those of its steps are'
     refused = lost % ("JSL", " has no place in a catalogue") + " (--allow listeners leaves it out)"
     assert line_of(jobs, capfd) == (1, "", [refused])
     status, line, told = line_of(jobs, capfd, "--allow", "listeners")
@@ -206,11 +206,8 @@ async def test_a_folder_may_grow(jobs: Path, settings: Make, has_log: None) -> N
         names = [one["jobName"] for one in (await caller.ask("GET", "/batch/jobinstances")).told]
     assert names == ["second", "first"]
     (jobs / "b.xml").unlink()
-    instance = Instance(settings(catalogue=jobs, is_folder=True))
-    await instance.start()
-    with pytest.raises(Fatal, match="the job 'first' is dropped"):
-        await instance.ended()
-    await instance.stop()
+    async with running(settings(catalogue=jobs, is_folder=True)) as instance:
+        assert (await Caller(instance.url).start("first")).status == 201
 
 
 def test_a_folder_that_is_refused_serves_nothing(jobs: Path, settings: Make) -> None:

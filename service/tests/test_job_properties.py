@@ -226,7 +226,7 @@ def test_properties_that_come_to_nothing_are_soon_read(tmp_path: Path) -> None:
     pairs = [("p0", "#{jobProperties['none']}"), *((f"p{n}", f"#{{jobProperties['p{n - 1}']}}" * 2) for n in range(1, 60))]
     begun = time.process_time()
     assert refused(tmp_path, jsl(properties(*pairs), "<batchlet ref=\"b#{jobProperties['p59']}\"/>")) == []
-    assert read_folder(tmp_path, ()).properties["a"].at_claim(WORK, {})["step"] == {f"p{n}": "" for n in range(60)}
+    assert read_folder(tmp_path, ()).for_workers["a"].properties.at_claim(WORK, {})["step"] == {f"p{n}": "" for n in range(60)}
     assert time.process_time() - begun < 2
 
 
@@ -294,7 +294,7 @@ async def test_properties_with_odd_characters_arrive(tmp_path: Path) -> None:
     odd = {name: value for name, value in ODD.items()}
     text = jsl("", f'<batchlet ref="b">{properties(*((attribute(n), attribute(v)) for n, v in odd.items()))}</batchlet>')
     assert refused(tmp_path, text) == []
-    told = read_folder(tmp_path, ()).properties["a"].at_claim(WORK, {})
+    told = read_folder(tmp_path, ()).for_workers["a"].properties.at_claim(WORK, {})
     assert told == {"batchlet": odd}
     outcome, shown, log = await run(tmp_path, WORK, told)
     assert (outcome, log) == ("COMPLETED", "")
@@ -318,7 +318,7 @@ async def test_a_value_that_no_environment_holds_is_in_the_file(tmp_path: Path) 
 async def test_a_thousand_properties_arrive(tmp_path: Path) -> None:
     text = jsl(properties(*((f"p{number}", f"value {number}") for number in range(1_000))), job=properties(("n", "1")))
     assert refused(tmp_path, text) == []
-    job = read_folder(tmp_path, ()).properties["a"]
+    job = read_folder(tmp_path, ()).for_workers["a"].properties
     job.elements["s"].artifacts["batchlet"] = job.elements["s"].own
     begun = time.process_time()
     told = job.at_claim(WORK, {})

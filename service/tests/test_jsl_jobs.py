@@ -17,13 +17,9 @@ import pytest
 from instances import Caller, Instance, running, until
 from workers import working
 
-from job_host.catalogue import growth, jsl
+from job_host.catalogue import jsl
 from job_host.catalogue.folder import read_folder
-from job_host.service.keepers.postgres import PostgresKeeper
-from job_host.service.server import read_jobs
 from job_host.service.settings import ServeSettings
-from job_host.service.terms.leases import Leases
-from job_host.service.terms.term import Observers
 
 Make = Callable[..., ServeSettings]
 SAMPLES = Path(__file__).parent / "jsl"
@@ -254,19 +250,19 @@ def test_each_job_file_is_run() -> None:
     assert {path.stem for path in (SAMPLES / "jobs").iterdir()} == {run.job for run in RUNS}
 
 
-EXCEPTIONS = ["skip-limit", "retry-limit", *jsl.EXCEPTION_CLASSES]
+# The forms of which the worker knows what to do: test_jsl_steps.py.
+TAKEN = {
+    *("properties", "checkpoint-policy", "checkpoint-algorithm", "time-limit", "skip-limit", "retry-limit"),
+    *jsl.EXCEPTION_CLASSES,
+}
 # The forms that are named in each file, in the order of its text.
 NAMED = {
     "job_listeners": ["listeners"],
-    "step_listeners": ["listeners"],
+    "job_listeners_two": ["listeners"],
     "partition_mapper": ["mapper", "reducer"],
     "partition_mapper_chunk": ["mapper", "collector", "analyzer", "reducer"],
     "partition_collector": ["collector", "analyzer"],
     "partition_threads": ["threads", "threads"],
-    "checkpoint_custom": ["checkpoint-policy", "checkpoint-algorithm"],
-    "checkpoint_time": ["time-limit", "checkpoint-policy", "time-limit", "checkpoint-algorithm"],
-    "skip_limit": ["skip-limit", "skippable-exception-classes"],
-    "retry_limit": ["retry-limit", "retryable-exception-classes", "no-rollback-exception-classes", *EXCEPTIONS],
     "split_next": ["transitions-in-split"],
     "split_transitions": ["transitions-in-split"] * 2,
     "inheritance_job": ["inheritance"] * 2,
@@ -312,7 +308,7 @@ def test_an_entity_is_refused(tmp_path: Path) -> None:
 def test_each_construct_is_named_at_least_twice() -> None:
     assert {path.stem for path in (SAMPLES / "refused").iterdir()} == {*NAMED, *ATTACKS}
     names = [name for some in NAMED.values() for name in some]
-    assert [name for name in jsl.REFUSED if names.count(name) < 2] == ["properties"]
+    assert {name for name in jsl.REFUSED if names.count(name) < 2} == TAKEN
 
 
 async def test_the_instance_that_leads_resolves(settings: Make) -> None:
@@ -361,14 +357,19 @@ async def test_what_comes_to_too_much_fails_its_work_item(either: Make, artifact
     assert log == "jobhost: the properties can't be handed over: they come to more than 2097152 characters\n"
 
 
-async def test_an_instance_has_a_file_of_each_job(settings: Make, tmp_path: Path, has_log: None) -> None:
-    """Another instance has brought a job: without its file the properties aren't known here."""
-    for folder, names in (("one", ["latin"]), ("two", ["latin", "parameters"])):
+async def test_an_instance_needs_no_file_of_a_job_that_another_one_brings(settings: Make, tmp_path: Path) -> None:
+    """The table has each version's file: by it the properties are resolved."""
+    for folder, names in (("one", ["latin", "parameters"]), ("two", ["latin"])):
         (tmp_path / folder).mkdir()
         for name in names:
             shutil.copy(SAMPLES / "jobs" / f"{name}.xml", tmp_path / folder)
-    given = settings(catalogue=tmp_path / "one", is_folder=True)
-    keeper = PostgresKeeper(given, read_jobs(given), Leases(1.0), Observers())
-    keeper._has_begun = True
-    with pytest.raises(growth.CatalogueChanged, match="another instance has brought 'parameters', which this one has no file"):
-        await keeper._choose(read_jobs(settings(catalogue=tmp_path / "two", is_folder=True)).line)
+    one, two = (settings(catalogue=tmp_path / name, is_folder=True) for name in ("one", "two"))
+    claims = []
+    async with running(one) as instance, running(two, "follower") as follower:
+        for _ in range(2):
+            await Caller(instance.url).start("parameters")
+        claims.append((await Caller(instance.url).claim()).told["properties"])
+        await instance.stop()
+        await follower.until_role("leader")
+        claims.append((await Caller(follower.url).claim()).told["properties"])
+    assert claims[0] == claims[1] != {}

@@ -25,7 +25,7 @@ MAY_IMPORT: Mapping[str, Set[str]] = {
 # The folders and modules of the part `service`. Each may import what stands before it.
 ORDER_OF_SERVICE = (
     *("pages", "problems", "settings"),
-    *("history", "terms", "stores", "keepers", "http", "routes"),
+    *("history", "versions", "terms", "stores", "keepers", "http", "routes"),
     *("metrics", "server"),
 )
 

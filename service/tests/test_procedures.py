@@ -23,6 +23,7 @@ from postgres_server import PostgresServer, free_port, programs
 from unversioned import make_unversioned
 
 from job_host.service.stores.beside_files import STORE_NAME
+from job_host.service.stores.postgres_migrations import MIGRATIONS
 
 sys.path.insert(0, str(ROOT / "tools"))
 page_blocks = importlib.import_module("page_blocks")
@@ -230,7 +231,7 @@ def test_an_upgrade_over_postgresql(tmp_path: Path, postgres: PostgresServer, da
         history = fail_twice(leader)
         sql("drop table job_host_version")
         assert follower.paste(block) == ready == "ready\n"
-        assert sql("select version from job_host_version") == "1"
+        assert sql("select version from job_host_version") == str(len(MIGRATIONS))
         assert leader.ask("GET", "/health/leader").status == 200 and leader.run(START) == FIRST
         assert leader.paste(block) == ready
         until_it_leads(follower)

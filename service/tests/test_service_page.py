@@ -88,7 +88,7 @@ def test_the_page_has_an_example_of_each_path() -> None:
     others = [("GET", path) for path in ("/batch/events", "/metrics", "/health/leader", "/readyz")]
     routes = [(route[0], route[1]) for route in ROUTES]
     for method, path in [*routes, *others]:
-        pattern = re.escape(path).replace(r"\{id\}", "[0-9]+") + r"(?![/\w])"
+        pattern = re.escape(path).replace(r"\{id\}", "[0-9]+").replace(r"\{name\}", "[a-z]+") + r"(?![/\w])"
         assert any(re.search(pattern, line) and (method in line or path == "/readyz") for line in asked), (method, path)
     for action in (*work.ACTIONS, "heartbeat", "stop", "restart", "abandon"):
         assert any(f"?action={action}'" in line for line in asked), action

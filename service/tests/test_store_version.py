@@ -24,11 +24,12 @@ from job_host.service.settings import ServeSettings
 from job_host.service.stores import postgres_migrations, sqlite_schema
 from job_host.service.stores.beside_files import STORE_NAME
 from job_host.service.stores.postgres import PostgresStore
-from job_host.service.stores.postgres_migrations import make_tables
+from job_host.service.stores.postgres_migrations import MIGRATIONS
 from job_host.service.stores.sqlite import SqliteStore
 from job_host.service.stores.sqlite_schema import FIRST
 
 Make = Callable[..., ServeSettings]
+THIS_VERSION = len(MIGRATIONS)
 
 
 async def fill(instance: Instance) -> str:
@@ -186,7 +187,7 @@ async def test_tables_without_a_version_are_brought_to_this_one(settings: Make) 
     await make_unversioned_tables(made.postgres[0])
     async with running(made) as instance:
         await check_filled(instance, history)
-    assert await version_of(made.postgres[0]) == 1
+    assert await version_of(made.postgres[0]) == THIS_VERSION
 
 
 async def version_of(dsn: str) -> int:
@@ -216,11 +217,11 @@ async def test_tables_of_a_later_version_are_refused_and_nothing_is_changed(sett
     await table.close()
     before = await rows_of(made.postgres[0])
     told = await refusal(made)
-    assert told.startswith("LaterVersion: the tables of PostgreSQL have version 7, and this jobhost knows up to version 1")
+    assert told.startswith("LaterVersion: the tables of PostgreSQL have version 7, and this jobhost knows up to version 2")
     assert await rows_of(made.postgres[0]) == before
 
 
-@pytest.mark.parametrize("version", [0, 1])
+@pytest.mark.parametrize("version", [0, THIS_VERSION])
 async def test_a_migration_of_tables_that_is_cut_off_leaves_them_as_they_were(
     dsn: str, monkeypatch: pytest.MonkeyPatch, version: int
 ) -> None:
@@ -235,13 +236,13 @@ async def test_a_migration_of_tables_that_is_cut_off_leaves_them_as_they_were(
         await connection.execute("create table added (number integer)")
         await connection.execute("drop table none")
 
-    monkeypatch.setattr(postgres_migrations, "MIGRATIONS", [make_tables, add])
+    monkeypatch.setattr(postgres_migrations, "MIGRATIONS", [*MIGRATIONS, add])
     with pytest.raises(asyncpg.UndefinedTableError):
         await PostgresStore.open([dsn], 5.0)
     assert (await rows_of(dsn), await version_of(dsn)) == (before, version)
 
 
-@pytest.mark.parametrize("version", [None, 0, 1])
+@pytest.mark.parametrize("version", [None, 0, THIS_VERSION])
 async def test_instances_that_begin_at_once_migrate_once(
     dsn: str, monkeypatch: pytest.MonkeyPatch, version: int | None
 ) -> None:
@@ -254,9 +255,9 @@ async def test_instances_that_begin_at_once_migrate_once(
         await connection.execute("create table added (number integer)")
         await asyncio.sleep(0.2)
 
-    monkeypatch.setattr(postgres_migrations, "MIGRATIONS", [make_tables, add])
+    monkeypatch.setattr(postgres_migrations, "MIGRATIONS", [*MIGRATIONS, add])
     stores = await asyncio.gather(*(PostgresStore.open([dsn], 5.0) for _ in range(4)))
-    assert await version_of(dsn) == 2
+    assert await version_of(dsn) == THIS_VERSION + 1
     for store in stores:
         store.close()
 
@@ -273,4 +274,4 @@ async def test_tables_that_have_this_version_wait_for_no_commit_under_way(dsn: s
             await table.execute("insert into job_host_client values ('one', 2) on conflict do nothing")
             (await asyncio.wait_for(PostgresStore.open([dsn], 5.0), 5.0)).close()
         await table.close()
-    assert await version_of(dsn) == 1
+    assert await version_of(dsn) == THIS_VERSION

@@ -118,6 +118,9 @@ def warn(file: CatalogueFile, folder: Path | None, faults: list[Fault]) -> Itera
     yield from jobs_alike(jobs)
     for job in jobs:
         yield from Warner(job, known).warnings(job.number in at_fault)
+    if known is not None:
+        for artifact in file.beside:
+            yield from known.warn(artifact.at, artifact.owner, artifact.name)
 
 
 def check(file: CatalogueFile, batchctl: Sequence[str], folder: Path | None = None) -> Checked:

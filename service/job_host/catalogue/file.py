@@ -7,9 +7,18 @@ from collections.abc import Collection
 from dataclasses import dataclass, field
 
 from job_host.catalogue import jsl, jsl_text
-from job_host.catalogue.faults import NOBODY, NOT_A_CATALOGUE, NOT_JSON, Fault, Note
+from job_host.catalogue.faults import NOBODY, NOT_A_CATALOGUE, NOT_JSON, Fault, Note, Owner
 from job_host.catalogue.text import MOST_LINE_BYTES, Members, NotJson, Reader, Source, Value, decoded, one_line, plain
 from job_host.protocol.lines import compact
+
+
+@dataclass(frozen=True)
+class NamedArtifact:
+    """An artifact of a step that stands beside the catalogue, and where it is named."""
+
+    at: int
+    owner: Owner
+    name: str
 
 
 @dataclass
@@ -17,7 +26,7 @@ class CatalogueFile:
     """What a file holds. `line` is none if its JSL can't be read, and `root` is none if it can't be read at all.
 
     `faults` are those that keep it from being read, `refused` the forms of JSL that keep it from being a catalogue, and `told`
-    those that are left out.
+    those that are left out. `beside` are the artifacts that have no place in a catalogue.
     """
 
     source: Source
@@ -26,6 +35,7 @@ class CatalogueFile:
     faults: list[Fault] = field(default_factory=list)
     refused: list[Note] = field(default_factory=list)
     told: list[Note] = field(default_factory=list)
+    beside: list[NamedArtifact] = field(default_factory=list)
 
 
 def read_data(name: str, data: bytes, allowed: Collection[str] = ()) -> CatalogueFile:

@@ -1,5 +1,7 @@
 """A folder of job files, as people have them: each `*.xml` is a job in JSL, each `*.json` a job or a catalogue.
 
+But `NAME.settings.json` has the settings of the job in `NAME.xml`.
+
 All of them together are one catalogue, whose jobs are in the order of the files' names. What is at fault in it is for batchctl
 to say, and what can't be read is named here, with its file and its place.
 """
@@ -8,18 +10,19 @@ from __future__ import annotations
 
 import json
 import os
+import re
 import stat
 from collections.abc import Collection, Iterator, Sequence
-from dataclasses import dataclass, field
+from dataclasses import dataclass, field, replace
 from pathlib import Path
 
 from job_host.catalogue.check import found_faults, jobs_in, unexplained
 from job_host.catalogue.faults import Fault, Note
 from job_host.catalogue.file import CatalogueFile, catalogue_of, read_json, translated
-from job_host.catalogue.jobs import JobsRefused, ServedJobs, as_it_is
-from job_host.catalogue.jsl_properties import PropertiesTranslator
+from job_host.catalogue.jobs import ForWorkers, JobFile, JobsRefused, ServedJobs, SettingsFile, as_it_is
+from job_host.catalogue.jsl_steps import StepsTranslator
 from job_host.catalogue.members import MemberFinder
-from job_host.catalogue.properties import JobProperties
+from job_host.catalogue.settings import SUFFIX, SettingsFinder, job_file_of, settings_of
 from job_host.catalogue.structure import MOST_JOBS
 from job_host.catalogue.text import MOST_LINE_BYTES, Members, plain
 from job_host.catalogue.tree import Job, shown
@@ -29,6 +32,9 @@ JSL_SUFFIX, JSON_SUFFIX = ".xml", ".json"
 MOST_BYTES = {JSL_SUFFIX: 4_194_304, JSON_SUFFIX: MOST_LINE_BYTES}
 # A job has at most 1,000 elements of a catalogue.
 MOST_XML_ELEMENTS = 100_000
+# A catalogue names the versions of a job so.
+RESERVED = re.compile(r".*@[0-9]+", re.DOTALL)
+UNRESERVED = "an id without `@` and digits at its end, as versions have"
 
 
 class Unreadable(Exception):
@@ -51,17 +57,35 @@ class JobFolder:
     path: Path
     files: list[CatalogueFile] = field(default_factory=list)
     beside: list[str] = field(default_factory=list)
-    properties: dict[str, JobProperties] = field(default_factory=dict)
+    for_workers: dict[str, ForWorkers] = field(default_factory=dict)
+    sources: dict[str, JobFile] = field(default_factory=dict)
 
     def read(self, path: Path, allowed: Collection[str]) -> None:
         """Reads one file."""
         try:
-            file, properties = read_job_file(path, allowed)
+            data = bytes_of(path)
         except (OSError, Unreadable) as fault:
-            self.beside.append(f"{path}: {fault.strerror if isinstance(fault, OSError) else fault}")
+            self.beside.append(unread(path, fault))
             return
-        self.files.append(file)
-        self.properties |= {job.id: properties for job in jobs_of_file(file) if job.id is not None}
+        read = read_job_file(JobFile(str(path), path.suffix, data, self.settings(path)), allowed)
+        self.files.append(read.file)
+        self.beside += read.beside
+        for job in jobs_of_file(read.file):
+            if job.id is not None:
+                self.for_workers[job.id] = read.for_workers
+                self.sources[job.id] = read.source_of(path.name, job)
+
+    def settings(self, path: Path) -> SettingsFile | None:
+        """The settings of a job's file. If they can't be read, they are refused."""
+        try:
+            return settings_beside(path)
+        except (OSError, Unreadable) as fault:
+            self.beside.append(unread(settings_of(path), fault))
+            return None
+
+    def look_at_settings(self, paths: Sequence[Path]) -> None:
+        """Refuses settings that no job file has."""
+        self.beside += [unowned(path) for path in paths if path.name.endswith(SUFFIX) and not job_file_of(path).exists()]
 
     @property
     def refused(self) -> list[str]:
@@ -88,6 +112,8 @@ class JobFolder:
         for number, (file, job) in enumerate(self.jobs()):
             if number == MOST_JOBS:
                 self.refuse(file, "TooMany", job, f"at most {MOST_JOBS} jobs in the folder", "one more")
+            if job.id is not None and is_reserved(job.id):
+                self.refuse(file, "ReservedId", job, UNRESERVED, shown(job.id))
             place = f"{file.source.name}:{file.source.place(job.value.at)}"
             first = first_with.setdefault(job.id, place) if job.id is not None else place
             if first is not place:
@@ -108,7 +134,7 @@ class JobFolder:
         """Raises JobsRefused."""
         if self.refused:
             raise JobsRefused(self.refused)
-        return ServedJobs(self.line, self.told_fault, self.properties)
+        return ServedJobs(self.line, self.told_fault, self.for_workers, self.sources)
 
     def told_fault(self, answer: bytes) -> str:
         """A fault of the whole catalogue, as batchctl names it, at its place in the file of its job."""
@@ -132,10 +158,19 @@ def fault_in(file: CatalogueFile, answer: dict[str, object]) -> Fault:
     return found[0] if found else unexplained(answer, file)
 
 
-def paths_in(folder: Path) -> Sequence[Path]:
-    """The job files of a folder, in the order of their names' bytes. Raises OSError if it can't be read."""
+def unread(path: Path, fault: OSError | Unreadable) -> str:
+    return f"{path}: {fault.strerror if isinstance(fault, OSError) else fault}"
+
+
+def files_in(folder: Path) -> Sequence[Path]:
+    """The job files of a folder and their settings, in the order of their names' bytes. Raises OSError if it can't be read."""
     found = [path for path in folder.iterdir() if path.suffix in MOST_BYTES and not path.name.startswith(".")]
     return sorted(found, key=lambda path: os.fsencode(path.name))
+
+
+def paths_in(folder: Path) -> Sequence[Path]:
+    """The job files of a folder. Raises OSError if it can't be read."""
+    return [path for path in files_in(folder) if not path.name.endswith(SUFFIX)]
 
 
 def bytes_of(path: Path) -> bytes:
@@ -150,13 +185,53 @@ def bytes_of(path: Path) -> bytes:
     return data
 
 
-def read_job_file(path: Path, allowed: Collection[str]) -> tuple[CatalogueFile, JobProperties]:
-    """A file, and the properties of its job in JSL. Raises OSError and Unreadable."""
-    data = bytes_of(path)
-    if path.suffix == JSON_SUFFIX:
-        return read_json_file(str(path), data), JobProperties()
-    translator = PropertiesTranslator(allowed)
-    return translated(str(path), data, translator, MOST_XML_ELEMENTS), translator.kept
+def settings_beside(path: Path) -> SettingsFile | None:
+    """The settings of a job's file in JSL, if it has some. Raises OSError, and Unreadable."""
+    beside = settings_of(path)
+    if path.suffix != JSL_SUFFIX or not os.path.lexists(beside):
+        return None
+    return SettingsFile(str(beside), bytes_of(beside))
+
+
+def unowned(path: Path) -> str:
+    return f"{path}: there is no job file {job_file_of(path).name}, whose settings these are"
+
+
+@dataclass
+class ReadFile:
+    """What a file holds, and what its job in JSL has for workers. `beside` has a line for each fault of the job's settings."""
+
+    given: JobFile
+    file: CatalogueFile
+    for_workers: ForWorkers = field(default_factory=ForWorkers)
+    beside: list[str] = field(default_factory=list)
+
+    def source_of(self, name: str, job: Job) -> JobFile:
+        """The file of one of the jobs alone, by the file's name in its folder."""
+        settings = self.given.settings
+        if settings is not None:
+            settings = replace(settings, name=Path(settings.name).name)
+        data = self.given.data if len(jobs_of_file(self.file)) == 1 else compact(plain(job.value))
+        return JobFile(name, self.given.suffix, data, settings)
+
+
+def read_job_file(given: JobFile, allowed: Collection[str]) -> ReadFile:
+    if given.suffix == JSON_SUFFIX:
+        return ReadFile(given, read_json_file(given.name, given.data))
+    translator = StepsTranslator(allowed)
+    file = translated(given.name, given.data, translator, MOST_XML_ELEMENTS)
+    file.beside = translator.artifacts
+    read = ReadFile(given, file, ForWorkers(translator.kept, translator.steps))
+    if given.settings is not None and jobs_of_file(file):
+        found = SettingsFinder(given.settings.name, given.settings.data, jobs_of_file(file)[0])
+        read.beside += found.told
+        found.add_to(translator.steps)
+    return read
+
+
+def is_reserved(name: str) -> bool:
+    """Whether a version of a job may have this id."""
+    return RESERVED.fullmatch(name) is not None
 
 
 def read_json_file(name: str, data: bytes) -> CatalogueFile:
@@ -175,5 +250,6 @@ def read_folder(folder: Path, allowed: Collection[str]) -> JobFolder:
     read = JobFolder(folder)
     for path in paths_in(folder):
         read.read(path, allowed)
+    read.look_at_settings(files_in(folder))
     read.look_at_all()
     return read

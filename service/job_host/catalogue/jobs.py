@@ -4,13 +4,24 @@ from __future__ import annotations
 
 import json
 from collections.abc import Callable, Mapping, Sequence
-from dataclasses import dataclass
+from dataclasses import dataclass, field
 from pathlib import Path
 from typing import Any
 
 from job_host.catalogue.properties import JobProperties
 from job_host.catalogue.text import NotJson, Reader, one_line, plain
 from job_host.protocol.lines import compact
+
+# What a claim tells of each step, by the steps' ids.
+Steps = dict[str, dict[str, Any]]
+
+
+@dataclass(frozen=True)
+class ForWorkers:
+    """What claims tell of a job that has no place in a catalogue: its properties, and what workers do for its steps."""
+
+    properties: JobProperties = field(default_factory=JobProperties)
+    steps: Steps = field(default_factory=dict)
 
 
 class JobsRefused(Exception):
@@ -26,15 +37,35 @@ def as_it_is(answer: bytes) -> str:
 
 
 @dataclass(frozen=True)
+class SettingsFile:
+    """What the settings' file of a job holds."""
+
+    name: str
+    data: bytes
+
+
+@dataclass(frozen=True)
+class JobFile:
+    """What the file of a job holds, in JSL with the suffix .xml, in JSON with .json; and its settings, if it has some."""
+
+    name: str
+    suffix: str
+    data: bytes
+    settings: SettingsFile | None = None
+
+
+@dataclass(frozen=True)
 class ServedJobs:
     """The jobs of a service: their catalogue as one line, and how a fault of it is told, by batchctl's answer.
 
-    `properties` has those of each job of a folder, by its id. It is none for a catalogue's file, which has no place for them.
+    `for_workers` and `files` have those of each job of a folder, by its id. For a catalogue's file they are none: it has no
+    place for what is for workers, and its jobs have no versions.
     """
 
     line: bytes
     told_fault: Callable[[bytes], str] = as_it_is
-    properties: Mapping[str, JobProperties] | None = None
+    for_workers: Mapping[str, ForWorkers] | None = None
+    files: Mapping[str, JobFile] | None = None
 
 
 def read_file(path: Path) -> bytes:

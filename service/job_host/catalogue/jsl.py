@@ -7,7 +7,7 @@ allowed by its name: then it is left out. What is at fault in a catalogue is for
 from __future__ import annotations
 
 import re
-from collections.abc import Callable, Collection, Iterable
+from collections.abc import Callable, Collection, Iterable, Mapping
 from dataclasses import dataclass, field
 
 from job_host.catalogue.faults import NOBODY, Note, Owner
@@ -70,6 +70,12 @@ ATTRIBUTES: dict[str, tuple[str, ...]] = {
     "property": ("name", "value"),
     "properties": ("partition",),
     "partition": (),
+    "listeners": (),
+    "listener": ("ref",),
+    "checkpoint-algorithm": ("ref",),
+    **dict.fromkeys(EXCEPTION_CLASSES, ()),
+    "include": ("class",),
+    "exclude": ("class",),
 }
 CHILDREN: dict[str, tuple[str, ...]] = {
     "job": ("properties", "listeners", *EXECUTION_ELEMENTS),
@@ -85,8 +91,12 @@ CHILDREN: dict[str, tuple[str, ...]] = {
     "processor": ("properties",),
     "writer": ("properties",),
     "properties": ("property",),
+    "listeners": ("listener",),
+    "listener": ("properties",),
+    "checkpoint-algorithm": ("properties",),
+    **dict.fromkeys(EXCEPTION_CLASSES, ("include", "exclude")),
 }
-MANY = (*EXECUTION_ELEMENTS, *TRANSITIONS, "property")
+MANY = (*EXECUTION_ELEMENTS, *TRANSITIONS, "property", "listener", "include", "exclude")
 SEVERAL_PROPERTIES = "plan"
 
 Convert = Callable[[str], str | int | bool]
@@ -141,7 +151,9 @@ def tags(names: Iterable[str]) -> str:
 
 
 class Translator:
-    """Translates one job. `allowed` has the names of forms that may be left out."""
+    """Translates one job. `allowed` has the names of forms that may be left out, and `reasons` say what is lost then."""
+
+    reasons: Mapping[str, str] = REFUSED
 
     def __init__(self, allowed: Collection[str]) -> None:
         self.allowed = allowed
@@ -159,9 +171,9 @@ class Translator:
     def without(self, name: str, at: int, form: str, allowed: str = "leaves it out") -> None:
         """A form that has no place here, and without which a job does something else."""
         if name in self.allowed:
-            self.leave_out(at, f"{form}: {REFUSED[name]}")
+            self.leave_out(at, f"{form}: {self.reasons[name]}")
         else:
-            self.refuse(at, f"{form} has no place in a catalogue: {REFUSED[name]} (--allow {name} {allowed})")
+            self.refuse(at, f"{form} has no place in a catalogue: {self.reasons[name]} (--allow {name} {allowed})")
 
     def job(self, root: XmlElement) -> Translation:
         self.name = self.name_of(root)
@@ -245,10 +257,14 @@ class Translator:
 
     def scope_of(self, element: XmlElement, scope: Scope) -> Scope:
         """The properties that are known inside an element. Its own ones have no other place in a catalogue."""
-        self.all_without(element, "listeners")
+        self.listeners(element, scope)
         for properties in element.named("properties"):
             scope = self.properties(properties, scope)
         return scope
+
+    def listeners(self, element: XmlElement, scope: Scope) -> None:
+        """Those of a job or a step."""
+        self.all_without(element, "listeners")
 
     def all_without(self, owner: XmlElement, *names: str) -> None:
         """Children that have no place here, each by its name."""
@@ -302,12 +318,16 @@ class Translator:
         members = self.begin(element, "chunk", scope, {"item-count": number})
         for child in element.named("reader", "processor", "writer"):
             members.put(child.name, child.at, self.artifact(child, scope))
+        self.beside_chunk(element, scope)
+        return Value(element.at, element.value.end, members)
+
+    def beside_chunk(self, element: XmlElement, scope: Scope) -> None:
+        """What a chunk has that a catalogue has no place for."""
         self.all_without(element, "checkpoint-algorithm", *EXCEPTION_CLASSES)
         self.chunk_attribute(element, scope, "checkpoint-policy", lambda text: text == "item", "it is the default")
         self.chunk_attribute(element, scope, "time-limit", lambda text: number(text) == 0, "it is the default")
         self.limit(element, scope, "skip-limit", EXCEPTION_CLASSES[0])
         self.limit(element, scope, "retry-limit", EXCEPTION_CLASSES[1])
-        return Value(element.at, element.value.end, members)
 
     def limit(self, element: XmlElement, scope: Scope, name: str, classes: str) -> None:
         has_classes = any(element.named(classes))

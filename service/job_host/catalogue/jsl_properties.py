@@ -44,13 +44,13 @@ class PropertiesTranslator(Translator):
 
     def scope_of(self, element: XmlElement, scope: Scope) -> Scope:
         """The properties that are known inside an element. The partitions of a plan don't see one another's."""
-        self.all_without(element, "listeners")
         inner = scope
         for properties in element.named("properties"):
             pairs, inner = self.pairs_of(properties, scope)
             self.keep(element, properties, pairs, scope)
         if element.name in ("step", "decision"):
             self._inside = inner
+        self.listeners(element, inner)
         return inner
 
     def keep(self, element: XmlElement, properties: XmlElement, pairs: Pairs, scope: Scope) -> None:
@@ -64,7 +64,11 @@ class PropertiesTranslator(Translator):
         elif element.name == "step":
             self._current.own = pairs
         else:
-            self._current.artifacts[DECIDER if element.name == "decision" else element.name] = pairs
+            self._current.artifacts[self.use_of(element)] = pairs
+
+    def use_of(self, element: XmlElement) -> str:
+        """The name by which a claim tells the properties of an artifact."""
+        return DECIDER if element.name == "decision" else element.name
 
     def keep_of_partition(self, properties: XmlElement, pairs: Pairs, scope: Scope) -> None:
         if "partition" not in properties.attributes:

@@ -6,7 +6,7 @@ import re
 from collections.abc import Iterable, Iterator
 from pathlib import Path
 
-from job_host.catalogue.faults import NOBODY, WARNING, Note
+from job_host.catalogue.faults import NOBODY, WARNING, Note, Owner
 from job_host.catalogue.forms import likely
 from job_host.catalogue.text import Member, Members, Source, Value
 from job_host.catalogue.tree import ELEMENT, Element, Job, Listing, listings_of, shown
@@ -50,6 +50,11 @@ class Artifacts:
         if name not in self._told:
             self._told[name] = likely(name, self.names) if len(self._told) < MOST_SEARCHES else ""
         return self._told[name]
+
+    def warn(self, at: int, owner: Owner, name: str) -> Iterator[Note]:
+        """A warning of an artifact that no worker has."""
+        if name not in self.names:
+            yield Note(WARNING, at, owner, f"no worker over {self.folder} has the artifact {shown(name)}", self.likely(name))
 
 
 def covers(earlier: str, later: str) -> bool:
@@ -173,11 +178,10 @@ class Warner:
 
     def unknown_artifacts(self, element: Element) -> Iterator[Note]:
         """Artifacts that no worker has."""
-        for artifact in element.artifacts() if self.known is not None else ():
+        for artifact in element.artifacts():
             name = artifact.text("ref")
-            if name is not None and self.known is not None and name not in self.known.names:
-                told = f"no worker over {self.known.folder} has the artifact {shown(name)}"
-                yield self.warn(artifact.members["ref"].value.at, element, told, self.known.likely(name))
+            if name is not None and self.known is not None:
+                yield from self.known.warn(artifact.members["ref"].value.at, self.job.owner(element), name)
 
 
 def restarts_of(job: Job) -> list[Member]:

@@ -9,7 +9,7 @@ from urllib.parse import urlencode
 
 from rich.console import Console
 
-from job_host.commands.terminal import clock, plain, plain_lines, span
+from job_host.commands.terminal import clock, job_text, plain, plain_lines, span
 from job_host.protocol.bounds import PAGE_OF_LARGE_ROWS
 from job_host.protocol.client import Client
 
@@ -78,7 +78,7 @@ def lines(rows: Mapping[str, Sequence[Told]], in_utc: bool) -> Iterator[str]:
     """A line for each that isn't to be restarted."""
     said: dict[str, Callable[[Told], str]] = {"long": long, "late": late, "waiting": lambda one: waiting(one, in_utc)}
     for name, say in said.items():
-        yield from (f"{one['jobName']}: {say(one)}" for one in rows[name])
+        yield from (f"{job_text(one)}: {say(one)}" for one in rows[name])
 
 
 def long(one: Told) -> str:
@@ -101,7 +101,7 @@ def place(one: Told) -> str:
 
 def show_to_restart(console: Console, one: Told) -> None:
     number = one["executionId"]
-    console.print(plain(f"{one['jobName']}: job execution {number} is {one['batchStatus']}, exit status {one['exitStatus']}"))
+    console.print(plain(f"{job_text(one)}: job execution {number} is {one['batchStatus']}, exit status {one['exitStatus']}"))
     for cause in one["causes"]:
         lost = "LOST, " if cause["outcome"] == "LOST" else ""
         console.print(plain(f"  {place(cause)}: {lost}exit status {cause['exitStatus']}"))

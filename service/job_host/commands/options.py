@@ -3,6 +3,7 @@
 from __future__ import annotations
 
 import argparse
+from pathlib import Path
 
 from job_host.commands import jobs
 from job_host.commands.address import Subcommands, add_address
@@ -59,8 +60,27 @@ def add_restart(subcommands: Subcommands[argparse.ArgumentParser]) -> None:
     parser.add_argument("--wait", action="store_true", help=WAITS)
 
 
+def add_jobs(subcommands: Subcommands[argparse.ArgumentParser]) -> None:
+    """Commands that change jobs of a running service, and show their versions."""
+    from job_host.commands import job_versions
+
+    told = "changes the jobs of a running service, and shows their versions"
+    inner = subcommands.add_parser("jobs", help=told, description=told).add_subparsers(required=True, metavar="ACTION")
+    told = "applies files of jobs: each job that is another one than before has a new version"
+    parser = add_command(inner, "apply", job_versions.apply, told)
+    told = "a folder of job files, or one file (*.xml or *.json), with their settings"
+    parser.add_argument("path", type=Path, metavar="FOLDER", help=told)
+    parser.add_argument("--check", action="store_true", help="says what would change, and applies nothing")
+    told = "withdraws a job: its job executions can be restarted, and nothing is started"
+    add_command(inner, "withdraw", job_versions.withdraw, told).add_argument("job", metavar="JOB", help="the job's name")
+    parser = add_command(inner, "versions", job_versions.versions, "shows who applied which version of a job, and when")
+    parser.add_argument("job", metavar="JOB", help="the job's name")
+    add_utc(parser)
+
+
 def add_changes(subcommands: Subcommands[argparse.ArgumentParser]) -> None:
     add_start(subcommands)
+    add_jobs(subcommands)
     add_restart(subcommands)
     parser = add_command(subcommands, "stop", jobs.stop, "asks a job execution to stop")
     add_execution(parser)

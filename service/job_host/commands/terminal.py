@@ -27,6 +27,11 @@ def plain_lines(text: str) -> Text:
     return Text(printable_lines(text))
 
 
+def job_text(told: Told) -> str:
+    """The job of a row, with its version if that is above 1."""
+    return f"{told['jobName']} (version {told['version']})" if "version" in told else str(told["jobName"])
+
+
 def status_text(status: str) -> Text:
     return Text(printable(status), style=COLOURS.get(status, "cyan"))
 
@@ -59,7 +64,7 @@ def folded(*names: str, title: Text | None = None) -> Table:
 
 def execution_table(told: Told, in_utc: bool) -> Table:
     """A job execution with its step executions."""
-    title = f"{told['jobName']}: job execution {told['executionId']} of job instance {told['instanceId']}"
+    title = f"{job_text(told)}: job execution {told['executionId']} of job instance {told['instanceId']}"
     table = folded("step", "status", "exit status", "start", "end", "counts", title=plain(title))
     for step in told["stepExecutions"]:
         shown = [plain(step["stepName"]), status_text(step["batchStatus"]), plain(step["exitStatus"])]
@@ -81,11 +86,21 @@ def operation_table(told: Sequence[Told], execution: int, in_utc: bool) -> Table
     return table
 
 
+def change_table(told: Told, in_utc: bool) -> Table:
+    """Who applied which version of a job, or withdrew the job, and when."""
+    state = f"{told['jobName']}: version {told['version']}{', withdrawn' if told['withdrawn'] else ''}"
+    table = folded("version", "action", "by", "at", title=plain(state))
+    for one in told["changes"]:
+        by = one["client"] or "the service"
+        table.add_row(plain(one["version"]), plain(one["action"]), plain(by), clock(one["time"], in_utc))
+    return table
+
+
 def instance_table(told: Sequence[Told], in_utc: bool) -> Table:
     """Job instances, each with its most recent job execution."""
     table = folded("job instance", "job", "job execution", "status", "exit status", "last updated")
     for one in told:
-        shown = [plain(one["instanceId"]), plain(one["jobName"]), plain(one["executionId"]), status_text(one["batchStatus"])]
+        shown = [plain(one["instanceId"]), plain(job_text(one)), plain(one["executionId"]), status_text(one["batchStatus"])]
         table.add_row(*shown, plain(one["exitStatus"]), clock(one["lastUpdatedTime"], in_utc))
     return table
 
@@ -94,6 +109,6 @@ def work_table(told: Sequence[Told], in_utc: bool) -> Table:
     """Work items that are under way, and which worker holds each."""
     table = folded("work item", "job", "job execution", "step", "partition", "worker", "since")
     for one in told:
-        shown = [one[name] for name in ("work", "jobName", "executionId", "stepName", "partition", "client")]
+        shown = [one["work"], job_text(one), *(one[name] for name in ("executionId", "stepName", "partition", "client"))]
         table.add_row(*map(plain, shown), clock(one["since"], in_utc))
     return table

@@ -28,11 +28,20 @@ CONNECT_SECONDS = 5.0
 GONE_SECONDS = 10.0
 
 
+@dataclass(frozen=True)
+class Document:
+    """A body that is no JSON of the client's: its bytes, and their media type."""
+
+    data: bytes
+    kind: str
+
+
 class Refused(Exception):
     """A problem document, by its name."""
 
     def __init__(self, status: int, document: dict[str, Any]) -> None:
         self.status = status
+        self.document = document
         self.name = str(document.get("title", status))
         self.detail = str(document.get("detail", ""))
         self.leader = str(document.get("leader") or "")
@@ -150,7 +159,10 @@ class Client:
         url = self._urls[self._place] + path
         limit = aiohttp.ClientTimeout(total=attempt + wait, sock_connect=min(CONNECT_SECONDS, attempt))
         session = self._sessions[is_again]
-        async with session.request(method, url, json=body, headers=headers, timeout=limit) as response:
+        given: dict[str, Any] = {"json": body}
+        if isinstance(body, Document):
+            given, headers["Content-Type"] = {"data": body.data}, body.kind
+        async with session.request(method, url, headers=headers, timeout=limit, **given) as response:
             text = await response.text()
             if response.status >= 400:
                 raise Refused(response.status, document_of(text))
@@ -176,4 +188,4 @@ def urls_of(text: str) -> tuple[str, ...]:
     return tuple(url.strip() for url in text.split(",") if url.strip())
 
 
-__all__: Sequence[str] = ["Address", "Client", "Refused", "Unreachable", "read_token", "urls_of"]
+__all__: Sequence[str] = ["Address", "Client", "Document", "Refused", "Unreachable", "read_token", "urls_of"]

@@ -11,12 +11,12 @@ class NoArtifact(Exception):
 
 
 def find(folder: Path, name: str) -> Path:
-    """The executable of a name. A name with a slash, or with a point in front, names none."""
+    """The executable of a name. A name with a slash or with a point in front names none, nor does one that no file can have."""
     path = folder / name
-    if "/" in name or "\0" in name or name.startswith(".") or not path.is_file() or not os.access(path, os.X_OK):
+    if "/" in name or "\0" in name or name.startswith(".") or not os.path.isfile(path) or not os.access(path, os.X_OK):
         raise NoArtifact(f"there is no executable {name!r} in the folder of artifacts")
     return path.resolve()
 
 
 def is_stoppable(folder: Path, name: str) -> bool:
-    return (folder / f"{name}.stoppable").exists()
+    return os.path.exists(folder / f"{name}.stoppable")

@@ -27,6 +27,7 @@ STATUS_OF_REFUSAL = {
 # made by aiohttp alone.
 STATUS_OF_PROBLEM = {
     "BadRequest": 400,
+    "JobRefused": 400,
     "RoleLacksRight": 403,
     "ForeignOrigin": 403,
     "ForgedRequest": 403,
@@ -34,7 +35,10 @@ STATUS_OF_PROBLEM = {
     "MethodNotAllowed": 405,
     "TooSlow": 408,
     "ClientGone": 408,
+    "CatalogueFull": 409,
     "ClaimWithdrawn": 409,
+    "JobWithdrawn": 409,
+    "JobsFixed": 409,
     "NoLease": 409,
     "RequestEntityTooLarge": 413,
     "UnsupportedMediaType": 415,

@@ -12,7 +12,8 @@ from collections.abc import Awaitable, Callable, Sequence
 from aiohttp import web
 from prometheus_client import CONTENT_TYPE_LATEST
 
-from job_host.catalogue.jobs import ServedJobs, read_file
+from job_host.catalogue.faults import NoVerdict
+from job_host.catalogue.jobs import JobsRefused, ServedJobs, read_file
 from job_host.protocol.printable import begin_log
 from job_host.protocol.seldom import seldom
 from job_host.service.history.coprocess import CoProcessEnded
@@ -92,6 +93,8 @@ class Service:
         self.port = settings.port
         self.certificate: Certificate | None = None
         self._runner: web.ServerRunner | None = None
+        # Folders that are being read again.
+        self.readings: set[asyncio.Future[None]] = set()
 
     def application(self) -> web.Application:
         application = web.Application(middlewares=[self._answer], client_max_size=self.settings.bounds.body_bytes)
@@ -262,6 +265,22 @@ class Service:
             except (SettingsRefused, OSError, ValueError) as fault:
                 log.error("%s: what was read before stays in use: %s", name, fault)
         log.warning("has read the files of its tokens and its certificate again")
+        if self.settings.is_folder:
+            reading = asyncio.ensure_future(self._read_jobs_again())
+            self.readings.add(reading)
+            reading.add_done_callback(self.readings.discard)
+
+    async def _read_jobs_again(self) -> None:
+        """Reads the folder of jobs again. If a file is at fault, all jobs stay as they are."""
+        try:
+            served = await asyncio.to_thread(read_jobs, self.settings)
+            await self.keeper.read_folder(served)
+            log.warning("has read the files of its jobs again")
+        except JobsRefused as refused:
+            for line in refused.lines:
+                log.error("the jobs stay as they are: %s", line)
+        except (Problem, NoVerdict, OSError) as fault:
+            log.error("the jobs aren't read again: %s", fault)
 
     async def run(self) -> None:
         """Serves until SIGTERM or SIGINT. Raises Fatal if the keeper can't go on."""

@@ -2,92 +2,76 @@
 
 The groups, the metrics and what a fault comes to are those of `run_item` (docs/WORKERS.md, "What is done with a work item").
 But the writer is told the mark of its group, and may keep it with its data. So the reader is asked for the mark before the
-write, and is opened after the writer, which may have a newer mark than the service.
+write, and is opened after the writer, which may have a newer mark than the service. And a fault may be skipped, or tried again.
 """
 
 from __future__ import annotations
 
 import asyncio
-import json
+from collections import Counter
 from collections.abc import Awaitable, Callable, Mapping
-from contextlib import suppress
 from pathlib import Path
 from typing import Any
 
 from job_host.protocol import executables
-from job_host.worker import artifacts
-from job_host.worker.artifacts import Artifact, Ended, Program
-from job_host.worker.environment import WorkFiles, environment
-from job_host.worker.output import Tail, drain
+from job_host.worker.artifacts import Ended
+from job_host.worker.checkpoint_policy import CheckpointPolicy, CustomPolicy, ItemByItem, ItemPolicy
+from job_host.worker.fault_rules import FaultRules
+from job_host.worker.groups import Attempts, Group, RollBack
+from job_host.worker.listeners import Listeners, told_of
+from job_host.worker.output import Tail
+from job_host.worker.parts import Asked, Fault, Starter, Starts
 
 CHECKPOINT_BYTES = 65_536
-CLOSE_SECONDS = 10.0
+ALGORITHM = "checkpoint-algorithm"
+REOPENED = ("writer", "reader")
 
 # Reports a group. Returns whether a stop was asked for.
 Report = Callable[[str, dict[str, int]], Awaitable[bool]]
 
 
-class Fault(Exception):
-    """An artifact said `fault`, ended, or answered what isn't its turn."""
-
-
-class Part:
-    """A reader, a processor or a writer: one process."""
-
-    def __init__(self, name: str, artifact: Artifact, tail: Tail) -> None:
-        self._name = name
-        self._artifact = artifact
-        self._errors = asyncio.get_running_loop().create_task(drain(artifact.stderr, tail.stream()))
-
-    async def ask(self, do: str, **members: Any) -> dict[str, Any]:
-        """Sends one line, and returns the answer."""
-        assert self._artifact.stdin is not None and self._artifact.stdout is not None
-        try:
-            self._artifact.stdin.write(json.dumps({"do": do, **members}, separators=(",", ":")).encode() + b"\n")
-            await self._artifact.stdin.drain()
-            line = await self._artifact.stdout.readline()
-        except (OSError, ValueError) as fault:
-            raise Fault(f"{self._name}: {do}: {fault}") from fault
-        if not line:
-            raise Fault(f"{self._name}: it ended before it answered {do}")
-        return self._read(do, line)
-
-    def _read(self, do: str, line: bytes) -> dict[str, Any]:
-        try:
-            told = json.loads(line)
-        except (ValueError, RecursionError) as fault:
-            raise Fault(f"{self._name}: the answer to {do} is no JSON") from fault
-        if not isinstance(told, dict):
-            raise Fault(f"{self._name}: the answer to {do} is no object")
-        if "fault" in told:
-            raise Fault(f"{self._name}: {do}: {told['fault']}")
-        return told
-
-    async def close(self) -> None:
-        """Ends its input. A part that doesn't end by itself is killed."""
-        if self._artifact.stdin is not None:
-            self._artifact.stdin.close()
-        with suppress(asyncio.TimeoutError):
-            await asyncio.wait_for(self._artifact.wait(), CLOSE_SECONDS)
-        await self._artifact.kill()
-        await self._errors
+def never() -> bool:
+    return False
 
 
 class Chunk:
     """One work item of a chunk."""
 
-    def __init__(self, folder: Path, claimed: Mapping[str, Any], tail: Tail, report: Report) -> None:
+    def __init__(
+        self,
+        folder: Path,
+        claimed: Mapping[str, Any],
+        tail: Tail,
+        report: Report,
+        listeners: Listeners | None = None,
+        is_stop_asked: Callable[[], bool] = never,
+        starter: Starts | None = None,
+    ) -> None:
         self._folder = folder
         self._claimed = claimed
         self._work = claimed["work"]
+        self._given: Mapping[str, Any] = claimed.get("step", {}).get("chunk", {})
         self._tail = tail
         self._report = report
-        self.parts: dict[str, Part] = {}
-        self._files: WorkFiles | None = None
-        self.stop_asked = False
-        self._is_at_end = False
+        self._listeners = listeners or Listeners()
+        self._is_stop_asked = is_stop_asked
+        self._starter = starter
+        self.parts: dict[str, Asked] = {}
+        self._attempts = Attempts(FaultRules(self._given), self._listeners, tail.say, is_stop_asked)
+        self._policy: CheckpointPolicy = ItemPolicy(self._work["item-count"], self._given.get("time-limit", 0))
+        self._mark: str | None = self._work["checkpoint"]
         self._writer_keeps_marks = False
         self._group = 0
+        self._is_in_group = False
+        # Rollbacks that no report has told yet, and items that are run one by one after one.
+        self._rollbacks = 0
+        self._one_by_one = 0
+
+    @property
+    def names(self) -> dict[str, str]:
+        """The artifacts of the chunk by their uses."""
+        names = {use: self._work[use] for use in ("reader", "processor", "writer") if self._work[use] is not None}
+        return names | ({ALGORITHM: self._given[ALGORITHM]["ref"]} if ALGORITHM in self._given else {})
 
     async def run(self) -> Ended:
         try:
@@ -95,63 +79,73 @@ class Chunk:
         except (Fault, executables.NoArtifact, OSError) as fault:
             self._tail.say(str(fault))
             return Ended("FAILED")
+        self._is_in_group = True
         try:
-            return await self._groups()
-        except Fault as fault:
+            return Ended(await self._groups(), None, self._untold())
+        except (Fault, OSError) as fault:
             self._tail.say(str(fault))
-            return Ended("FAILED", None, {"ROLLBACK_COUNT": 1})
+            await self._tell_error(fault)
+            return Ended("FAILED", None, self.broken_off())
 
-    async def close(self) -> None:
+    async def close(self, at_once: bool = False) -> None:
         try:
-            await asyncio.gather(*(part.close() for part in self.parts.values()))
+            await asyncio.gather(*(part.close(at_once) for part in self.parts.values()))
         finally:
-            if self._files is not None:
-                self._files.remove()
+            if self._starter is not None:
+                self._starter.remove()
+
+    def broken_off(self) -> dict[str, int] | None:
+        """What no report has told, if nothing more is run: a group that was begun is rolled back."""
+        self._rollbacks += self._is_in_group
+        return self._untold()
+
+    def _untold(self) -> dict[str, int] | None:
+        counts = Counter(self._attempts.counts)
+        counts["ROLLBACK_COUNT"] += self._rollbacks
+        return dict(+counts) or None
+
+    async def _tell_error(self, fault: Exception) -> None:
+        """Tells listeners of a chunk that is at fault."""
+        if not self._is_in_group or not isinstance(fault, Fault):
+            return
+        try:
+            await self._listeners.tell("onError", **told_of(fault))
+        except Fault as another:
+            self._tail.say(str(another))
 
     async def _open(self) -> None:
-        """Starts all three, and opens the writer first: the reader goes on at the writer's mark if that keeps one."""
-        await self._start()
-        given = self._work["checkpoint"]
-        told = await self._open_part("writer", given)
-        self._writer_keeps_marks = "checkpoint" in told
-        mark = self._mark_of("writer", told)
-        if given is None and mark is not None:
-            raise Fault(f"{self._work['writer']}: it has the mark of an earlier run, and was told that this one begins")
-        await self._open_part("reader", given if mark is None else mark)
+        """Starts all parts, and opens the writer first: the reader goes on at the writer's mark if that keeps one."""
+        self._starter = self._starter or Starter(self._folder, self._claimed, self.names, self._tail)
+        for use in self.names:
+            self.parts[use] = await self._starter.start(use)
+        await self._open_at_mark()
         if "processor" in self.parts:
             await self._open_part("processor", None)
+        if ALGORITHM in self.parts:
+            await self.parts[ALGORITHM].ask("open", partition=self._work.get("partition"), work=self._work["work"])
+            self._policy = CustomPolicy(self.names[ALGORITHM], self.parts[ALGORITHM])
+
+    async def _open_at_mark(self) -> None:
+        told = await self._open_part("writer", self._mark)
+        self._writer_keeps_marks = "checkpoint" in told
+        mark = self._mark_of("writer", told)
+        if self._mark is None and mark is not None:
+            raise Fault(f"{self._work['writer']}: it has the mark of an earlier run, and was told that this one begins")
+        await self._open_part("reader", self._mark if mark is None else mark)
 
     async def _open_part(self, use: str, checkpoint: str | None) -> dict[str, Any]:
         members = {"checkpoint": checkpoint, "partition": self._work.get("partition"), "work": self._work["work"]}
         return await self.parts[use].ask("open", **members)
 
-    async def _start(self) -> None:
-        """Looks up all names before the first process is started."""
-        names = {use: self._work[use] for use in ("reader", "processor", "writer") if self._work[use] is not None}
-        paths = {use: executables.find(self._folder, name) for use, name in names.items()}
-        self._files = WorkFiles(self._claimed, names)
-        told = list[str]()
-        variables = {use: environment(self._claimed, use, self._files.variables(use), told.append) for use in names}
-        for text in dict.fromkeys(told):
-            self._tail.say(text)
-        for use, path in paths.items():
-            program = Program(path, self._folder, variables[use], self._files.paths, has_input=True)
-            artifact = await artifacts.spawn(program)
-            self.parts[use] = Part(names[use], artifact, self._tail)
-
-    async def _groups(self) -> Ended:
-        """Group by group, until the reader ends or a stop is asked for."""
+    async def _groups(self) -> str:
+        """Group by group, until the reader ends or a stop is asked for. Returns the outcome."""
         if await self._report_begin():
-            return Ended("STOPPED")
-        while not self.stop_asked:
-            group = await self._read_group()
-            if not group:
-                return Ended("COMPLETED")
-            if await self._write_group(group):
-                return Ended("STOPPED")
-            if self._is_at_end:
-                return Ended("COMPLETED")
-        return Ended("STOPPED")
+            return "STOPPED"
+        while not self._is_stop_asked():
+            outcome = await self._next_group()
+            if outcome is not None:
+                return outcome
+        return "STOPPED"
 
     async def _report_begin(self) -> bool:
         """Reports where the reader begins, if the writer keeps marks. Returns whether a stop was asked for.
@@ -160,37 +154,69 @@ class Chunk:
         """
         if not self._writer_keeps_marks or self._work["checkpoint"] is not None:
             return False
-        return await self._report(await self._checkpoint(), {})
+        return await self._report_group(await self._checkpoint(), {})
 
-    async def _write_group(self, group: list[Any]) -> bool:
-        """Processes, writes and reports a group. Returns whether a stop was asked for."""
-        self._group += 1
-        kept = await self._process(group)
-        mark = await self._checkpoint()
-        if kept:
-            place = {"work": self._work["work"], "group": self._group, "checkpoint": mark}
-            await self.parts["writer"].ask("write", items=kept, **place)
-        metrics = {"READ_COUNT": len(group), "FILTER_COUNT": len(group) - len(kept), "WRITE_COUNT": len(kept)}
-        return await self._report(mark, {**metrics, "COMMIT_COUNT": 1})
+    async def _next_group(self) -> str | None:
+        """Runs a group, and reports it. Returns the outcome of the work item, if it was the last."""
+        policy: CheckpointPolicy = ItemByItem() if self._one_by_one else self._policy
+        self._attempts.is_rerun = self._one_by_one > 0
+        group = Group(self.parts, self.names, self._attempts)
+        self._is_in_group = True
+        try:
+            seconds = await policy.begin()
+            mark = await self._within(seconds, self._run_group(group, policy))
+        except RollBack as rolled:
+            await self._roll_back(rolled.fault, group)
+            return None
+        self._is_in_group = False
+        is_stopped = mark is not None and await self._report_group(mark, group.metrics)
+        self._one_by_one = max(0, self._one_by_one - group.touched)
+        await policy.end()
+        if is_stopped:
+            return "STOPPED"
+        return "COMPLETED" if group.is_at_end else None
 
-    async def _read_group(self) -> list[Any]:
-        group: list[Any] = []
-        while len(group) < self._work["item-count"]:
-            told = await self.parts["reader"].ask("read")
-            if "item" not in told:
-                if told.get("end") is not True:
-                    raise Fault(f"{self._work['reader']}: read is answered an item, or that it is the end")
-                self._is_at_end = True
-                break
-            group.append(told["item"])
-        return group
+    @staticmethod
+    async def _within(seconds: float | None, running: Awaitable[str | None]) -> str | None:
+        try:
+            async with asyncio.timeout(seconds):
+                return await running
+        except TimeoutError as fault:
+            raise Fault(f"the group took longer than {seconds:.12g} seconds") from fault
 
-    async def _process(self, group: list[Any]) -> list[Any]:
-        """The items that are written. A processor that answers no item filters it out."""
-        if "processor" not in self.parts:
-            return group
-        told = [await self.parts["processor"].ask("process", item=item) for item in group]
-        return [one["item"] for one in told if one.get("item") is not None]
+    async def _run_group(self, group: Group, policy: CheckpointPolicy) -> str | None:
+        """Reads, processes and writes a group. Returns its mark; none if there was no item left."""
+        await self._listeners.tell("beforeChunk")
+        await group.gather(policy)
+        mark = None
+        if group.touched:
+            self._group += 1
+            mark = await self._checkpoint()
+            await group.write({"work": self._work["work"], "group": self._group, "checkpoint": mark})
+        await self._listeners.tell("afterChunk")
+        return mark
+
+    async def _report_group(self, mark: str, metrics: Mapping[str, int]) -> bool:
+        """Reports a group, and what wasn't told before. Returns whether a stop was asked for."""
+        is_stopped = await self._report(mark, {**metrics, **(self._untold() or {})})
+        self._mark = mark
+        self._rollbacks = 0
+        self._attempts.counts.clear()
+        return is_stopped
+
+    async def _roll_back(self, fault: Fault, group: Group) -> None:
+        """Goes back to the last checkpoint. What the group has touched is run item by item then."""
+        await self._listeners.tell("onError", **told_of(fault))
+        self._rollbacks += 1
+        self._is_in_group = False
+        self._one_by_one = max(self._one_by_one, group.touched)
+        if self._is_stop_asked():
+            return
+        await asyncio.gather(*(self.parts[use].close() for use in REOPENED))
+        assert self._starter is not None
+        for use in REOPENED:
+            self.parts[use] = await self._starter.start(use)
+        await self._open_at_mark()
 
     async def _checkpoint(self) -> str:
         mark = self._mark_of("reader", await self.parts["reader"].ask("checkpoint"))

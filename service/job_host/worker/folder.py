@@ -20,12 +20,15 @@ SHORTEST_SECONDS = 1.0
 LONGEST_SECONDS = 60.0
 # The names of the executables are told so often, as a service that has begun anew doesn't know them.
 TELL_SECONDS = 60.0
+NOTHING: Mapping[str, Any] = {}
 
 
-def names_of(work: Mapping[str, Any]) -> list[str]:
-    """The executables that a work item names."""
+def names_of(work: Mapping[str, Any], step: Mapping[str, Any] = NOTHING) -> list[str]:
+    """The executables that a work item and what is told of its step name."""
     uses = ("reader", "processor", "writer") if work["kind"] == "chunk" else ("ref",)
-    return [work[use] for use in uses if work.get(use) is not None]
+    algorithm = step.get("chunk", NOTHING).get("checkpoint-algorithm")
+    others = [*([algorithm] if algorithm is not None else []), *step.get("listeners", [])]
+    return [*(work[use] for use in uses if work.get(use) is not None), *(other["ref"] for other in others)]
 
 
 class ArtifactFolder:
@@ -60,9 +63,9 @@ class ArtifactFolder:
             self._forget()
         return time.monotonic() >= self._until
 
-    def note(self, work: Mapping[str, Any]) -> None:
+    def note(self, work: Mapping[str, Any], step: Mapping[str, Any] = NOTHING) -> None:
         """Notes whether a work item that was claimed has its executables."""
-        self._missing = [name for name in names_of(work) if not self._has(name)]
+        self._missing = [name for name in names_of(work, step) if not self._has(name)]
         if not self._missing:
             self._forget()
             return

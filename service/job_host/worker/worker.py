@@ -7,9 +7,10 @@ import logging
 import os
 import signal
 import uuid
-from collections.abc import Awaitable, Callable, Sequence
+from collections.abc import Awaitable, Sequence
 from contextlib import ExitStack, suppress
 from dataclasses import dataclass, replace
+from functools import partial
 from pathlib import Path
 from typing import Any, TypeVar
 
@@ -22,7 +23,9 @@ from job_host.worker.artifacts import Artifact, Ended, Program
 from job_host.worker.chunks import Chunk
 from job_host.worker.environment import WorkFiles, environment, use_of
 from job_host.worker.folder import ArtifactFolder
+from job_host.worker.listeners import Listeners
 from job_host.worker.output import ExitFile, FirstLine, Tail, drain
+from job_host.worker.steps import StepRun, Task
 
 log = logging.getLogger(__name__)
 
@@ -99,6 +102,12 @@ class Batchlet:
         finally:
             files.close()
 
+    async def close(self, at_once: bool = False) -> None:
+        """Its process ends with its run."""
+
+    def broken_off(self) -> None:
+        """It has no metrics."""
+
     async def _run(self, path: Path, file: ExitFile, texts: WorkFiles) -> Ended:
         """Runs the process. Both of its outputs are the log."""
         use = use_of(self.claimed["work"])
@@ -159,7 +168,7 @@ class Worker:
                 claimed = await self._next()
                 if "work" in claimed:
                     self._complete(claimed)
-                    self._folder.note(claimed["work"])
+                    self._folder.note(claimed["work"], claimed.get("step", {}))
                     running.add(asyncio.ensure_future(self._run(claimed)))
             else:
                 await self._until_free(running)
@@ -246,20 +255,13 @@ class Worker:
         if "propertiesFault" in claimed:
             tail.say(f"the properties can't be handed over: {claimed['propertiesFault']}")
             return Ended("FAILED")
-        if claimed["work"]["kind"] != "chunk":
-            return await Batchlet(self._folder.path, claimed, tail, told).run()
-        chunk = Chunk(self._folder.path, claimed, tail, lambda mark, metrics: self._checkpoint(claimed, mark, metrics))
-        watching = asyncio.ensure_future(self._watch_stop(told, lambda: setattr(chunk, "stop_asked", True)))
-        try:
-            return await chunk.run()
-        finally:
-            watching.cancel()
-            await chunk.close()
+        return await StepRun(self._folder.path, claimed, tail, partial(self._task, claimed, tail, told)).run()
 
-    @staticmethod
-    async def _watch_stop(told: Told, note: Callable[[], None]) -> None:
-        await told.stop.wait()
-        note()
+    def _task(self, claimed: dict[str, Any], tail: Tail, told: Told, listeners: Listeners) -> Task:
+        if claimed["work"]["kind"] != "chunk":
+            return Batchlet(self._folder.path, claimed, tail, told)
+        report = partial(self._checkpoint, claimed)
+        return Chunk(self._folder.path, claimed, tail, report, listeners, told.stop.is_set)
 
     async def _checkpoint(self, claimed: dict[str, Any], mark: str, metrics: dict[str, int]) -> bool:
         """Reports a group. Returns whether a stop was asked for."""

@@ -14,6 +14,7 @@ const MEANINGS = {
   NoSuchJobExecutionException: "It was purged.",
   NoSuchJobInstanceException: "It was purged.",
   JobStartException: "The catalogue has no such job.",
+  JobWithdrawn: "It is withdrawn: what it has can be restarted, and nothing is started.",
   WorkNotRunning: "The work item is over already.",
   TextTooLong: "A name has more than 256 bytes, a value more than 4,096, or there are more than 64 parameters.",
   RoleLacksRight: "Your token doesn't allow this.",

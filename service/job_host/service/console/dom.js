@@ -71,6 +71,11 @@ export function jobLink(name) {
   return link(`#/job/${encodeURIComponent(name)}`, told(name));
 }
 
+// The job of a row, with its version if that is above 1.
+export function jobOf({ jobName, version }) {
+  return [jobLink(jobName), version ? ` (version ${version})` : ""];
+}
+
 export function button(action, label, data = {}, kind = "") {
   const given = Object.fromEntries(Object.entries(data).map(([name, value]) => [`data-${name}`, value]));
   return element("button", { type: "button", class: kind, "data-action": action, ...given }, label);

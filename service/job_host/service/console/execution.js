@@ -2,7 +2,7 @@
 
 import { partitionsBar } from "./bars.js";
 import {
-  badge, button, element, executionLink, facts, heading, jobLink, MOST_ROWS, pageOf, pager, section, span, table, told,
+  badge, button, element, executionLink, facts, heading, jobOf, MOST_ROWS, pageOf, pager, section, span, table, told,
   UNFINISHED, when,
 } from "./dom.js";
 import { logList, readOpenLogs } from "./logs.js";
@@ -29,7 +29,7 @@ async function load({ number, query }) {
   const [newest, others, items, logs, operations, shape, causes] = await Promise.all([
     read(instance), read(`${instance}/jobexecutions`, page("others")), read(`${path}/workitems`, page("items")),
     read(`${path}/joblogs`, { ...page("logs"), sizes: true, ...(search ? { search } : {}) }),
-    read(`${path}/operations`, page("operations")), shapeOf(one.jobName),
+    read(`${path}/operations`, page("operations")), shapeOf(one.jobName, one.version),
     CAUSES[one.batchStatus] ? read(`${path}/causes`) : null,
   ]);
   const lists = { others, items, logs, operations };
@@ -191,7 +191,7 @@ export const execution = {
   draw(data, route, may) {
     const { one, shape } = data;
     return [
-      heading("Job execution ", String(one.executionId), " of ", jobLink(one.jobName), " ", badge(one.batchStatus)),
+      heading("Job execution ", String(one.executionId), " of ", jobOf(one), " ", badge(one.batchStatus)),
       actions(data, may),
       data.waiting ? element("p", { class: "waits", role: "status" }, "It waits. ", data.waiting) : null,
       data.causes ? causesSection(CAUSES[one.batchStatus], data.causes) : null,

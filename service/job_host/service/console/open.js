@@ -2,7 +2,7 @@
 // waits in vain.
 
 import {
-  badge, button, element, executionLink, jobLink, lasting, pageOf, pager, section, table, told, when,
+  badge, button, element, executionLink, jobOf, lasting, pageOf, pager, section, table, told, when,
 } from "./dom.js";
 
 // So many job instances are shown with the ends of their logs; of more, a log is opened by a click.
@@ -57,7 +57,7 @@ export function openSection(data, query, may, to) {
   const shown = rows.map((row) => ({
     key: row.executionId,
     cells: [
-      executionLink(row.executionId), jobLink(row.jobName), badge(row.batchStatus), causesCell(row, isOpen),
+      executionLink(row.executionId), jobOf(row), badge(row.batchStatus), causesCell(row, isOpen),
       when(row.endTime),
       ...(may("operate") ? [button("restart", "Restart", { execution: row.executionId }, "small")] : []),
     ],
@@ -72,7 +72,7 @@ export function openSection(data, query, may, to) {
 
 function line(kind, key, one, ...words) {
   return element("li", { class: kind, "data-key": `${kind} ${key}` },
-    one.jobName === null ? "A job" : jobLink(one.jobName),
+    one.jobName === null ? "A job" : jobOf(one),
     ": job execution ", executionLink(one.executionId), ...words);
 }
 

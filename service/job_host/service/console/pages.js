@@ -2,12 +2,12 @@
 
 import { tookBar } from "./bars.js";
 import {
-  badge, button, count, element, executionLink, facts, heading, jobLink, link, MOST_ROWS, pageOf, pager, section, span,
+  badge, button, count, element, executionLink, facts, heading, jobOf, link, MOST_ROWS, pageOf, pager, section, span,
   STATUSES, table, told, UNFINISHED, when,
 } from "./dom.js";
 import { mayBeChosen } from "./many.js";
 import { lookSection, openSection } from "./open.js";
-import { read, shapeOf, USUAL_SIZE } from "./service.js";
+import { newestShapeOf, read, USUAL_SIZE } from "./service.js";
 import { pageNow, pictured, ready } from "./view.js";
 
 const NEWEST = 8;
@@ -38,7 +38,7 @@ function executionsTable(caption, rows, empty, mayChoose = false) {
   return table(caption, columns, rows.map((row) => ({
     key: row.executionId,
     cells: [
-      executionLink(row.executionId), jobLink(row.jobName),
+      executionLink(row.executionId), jobOf(row),
       [badge(row.batchStatus), isSettled(row) ? " restarted" : ""],
       [exit(row), failedSteps(row)], told(row.parameterText || ""), when(row.createTime), when(row.endTime),
       row.startTime ? [span(row.startTime, row.endTime), " ", tookBar(row)] : "",
@@ -131,7 +131,7 @@ function jobsTable(catalogue, open, may) {
   const rows = shown.map((job) => ({
     key: job.jobName,
     cells: [
-      jobLink(job.jobName), job.instances.toLocaleString("en"), job.newest ? executionLink(job.newest.executionId) : "",
+      jobOf(job), job.instances.toLocaleString("en"), job.newest ? executionLink(job.newest.executionId) : "",
       job.newest ? badge(job.newest.batchStatus) : "never started", job.newest ? when(job.newest.lastUpdatedTime) : "",
       ...(may("operate") ? [button("start", "Start", { job: job.jobName }, "small")] : []),
     ],
@@ -257,7 +257,7 @@ export const job = {
   async load({ name }) {
     const asked = pageNow();
     const [shape, list] = await Promise.all([
-      shapeOf(name), read("/batch/jobexecutions", { jobName: name, pageSize: NEWEST * 2, details: true }),
+      newestShapeOf(name), read("/batch/jobexecutions", { jobName: name, pageSize: NEWEST * 2, details: true }),
     ]);
     await ready(asked, shape, new Map());
     return { shape, list };

@@ -88,10 +88,16 @@ export async function readText(path) {
 
 const shapes = new Map();
 
-// A job as the catalogue has it. A catalogue that is kept may get more jobs, and changes none.
-export async function shapeOf(jobName) {
-  if (!shapes.has(jobName)) shapes.set(jobName, await read("/batch/catalogue", { jobName }));
-  return shapes.get(jobName);
+// A version of a job, as the catalogue has it. A catalogue that is kept may get more versions, and changes none.
+export async function shapeOf(jobName, version = 1) {
+  const key = `${version} ${jobName}`;
+  if (!shapes.has(key)) shapes.set(key, { ...await read("/batch/catalogue", { jobName, version }), version });
+  return shapes.get(key);
+}
+
+// The newest version of a job.
+export async function newestShapeOf(jobName) {
+  return { version: 1, ...await read("/batch/catalogue", { jobName }) };
 }
 
 // After a new start the service has another token, which its page brings.

@@ -36,7 +36,8 @@ function around(elements, number) {
 }
 
 function queryOf({ job, states, folded, unfolded }) {
-  const words = new URLSearchParams({ jobName: job.id, downwards: isNarrow() });
+  const version = job.version ? { version: job.version } : {};
+  const words = new URLSearchParams({ jobName: job.id, ...version, downwards: isNarrow() });
   if (folded) return `${words}&folded=${[...folded].join(",")}`;
   const elements = numbered(job.elements);
   for (const number of lookedFor({ job, states }).numbers) around(elements, number).forEach((one) => unfolded.add(one));

@@ -36,7 +36,8 @@ class CatalogueRefused(Exception):
 class CoProcess(asyncio.SubprocessProtocol):
     """Writes lines and hands each reply to its hearer, in the order of the lines.
 
-    A hearer is called in the event loop's thread. It is given None if the co-process ends before its reply.
+    A hearer is called in the event loop's thread. It is given None if the co-process ends before its reply. While another one
+    takes its place, lines wait.
     """
 
     def __init__(self) -> None:
@@ -49,6 +50,9 @@ class CoProcess(asyncio.SubprocessProtocol):
         self.catalogue = b""
         self.has_ended = False
         self.ended: asyncio.Future[int | None] = asyncio.get_running_loop().create_future()
+        # It has ended, or another one has taken its place.
+        self.gone: asyncio.Future[None] = asyncio.get_running_loop().create_future()
+        self._waiting: list[tuple[Sequence[bytes], Hearer]] | None = None
 
     @classmethod
     async def start(cls, words: Sequence[str], catalogue: bytes) -> CoProcess:
@@ -63,7 +67,7 @@ class CoProcess(asyncio.SubprocessProtocol):
         process._write(catalogue + b"\n")
         try:
             first = await process.ask(b'{"ask":"status_counts"}')
-        except CoProcessEnded:
+        except (CoProcessEnded, asyncio.CancelledError):
             await process.close()
             raise
         if not first.startswith(b'{"counts":'):
@@ -95,6 +99,31 @@ class CoProcess(asyncio.SubprocessProtocol):
             self.ended.set_result(self.status)
         while self._hearers:
             self._hearers.popleft()(None)
+        if self._waiting is None:
+            self._go()
+
+    def _go(self) -> None:
+        if not self.gone.done():
+            self.gone.set_result(None)
+
+    def hold(self) -> None:
+        """Lets lines wait from now on: another co-process is to take its place."""
+        self._waiting = []
+
+    def go_on_in(self, other: CoProcess) -> None:
+        """Hands the lines that wait to the co-process that has taken its place."""
+        waiting, self._waiting = self._waiting or [], None
+        for lines, hearer in waiting:
+            other.send_all(lines, hearer)
+        self._go()
+
+    def give_up(self) -> None:
+        """No other one takes its place: no reply comes to the lines that wait."""
+        waiting, self._waiting = self._waiting or [], None
+        for hearer in [hearer for lines, hearer in waiting for _ in lines]:
+            hearer(None)
+        if self.has_ended:
+            self._go()
 
     @property
     def silence(self) -> float:
@@ -131,6 +160,9 @@ class CoProcess(asyncio.SubprocessProtocol):
 
     def send(self, line: bytes, hearer: Hearer) -> None:
         """Writes a line. Its reply goes to the hearer."""
+        if self._waiting is not None:
+            self._waiting.append(([line], hearer))
+            return
         if self.has_ended:
             hearer(None)
             return
@@ -140,7 +172,9 @@ class CoProcess(asyncio.SubprocessProtocol):
 
     def send_all(self, lines: Sequence[bytes], hearer: Hearer) -> None:
         """Writes lines one behind the other. Nothing comes between them, and the hearer is told each reply."""
-        if self.has_ended:
+        if self._waiting is not None:
+            self._waiting.append((lines, hearer))
+        elif self.has_ended:
             hearer(None)
         elif lines:
             self._begin_waiting()

@@ -11,6 +11,7 @@ from functools import lru_cache
 from typing import Any, NamedTuple
 
 from job_host.catalogue.jobs import jobs_of
+from job_host.catalogue.names import PLAIN_NAMES, JobNames
 from job_host.protocol.lines import LinesDigest, is_accepted, query
 from job_host.service.history.actions import ACTIONS, Action, Actions
 from job_host.service.history.answers import Answers
@@ -68,8 +69,9 @@ class Engine:
     co-process was handed by a replay is noted here.
     """
 
-    def __init__(self, process: CoProcess) -> None:
+    def __init__(self, process: CoProcess, names: JobNames = PLAIN_NAMES) -> None:
         self.process = process
+        self.names = names
         self.entered = 0
         self.last_moment = 0
         self.last_session = 0
@@ -82,14 +84,17 @@ class Engine:
         self.failed_work = EndedWork()
         self.actions = Actions()
         self.changes = Changes()
-        self.executions = ExecutionIndex(self)
-        self.open = OpenIndex(self, self.executions, self.busy, lambda job: job not in not_restartable(self.process.catalogue))
+        self.executions = ExecutionIndex(self, names)
+        self.open = OpenIndex(self, self.executions, self.busy, self._may_restart, names)
         self.recent: deque[Record] = deque()
         self.digest = LinesDigest()
         self.is_whole = True
         self.looked: Answers | None = None
         self.turn = asyncio.Lock()
         self.may_give_work: Callable[[], None] = lambda: None
+
+    def _may_restart(self, job: str) -> bool:
+        return job not in not_restartable(self.process.catalogue)
 
     def made_between(self, since: int | None, until: int | None) -> tuple[int, int | None]:
         """The numbers of the job executions that were made from a moment on, and before another one."""
@@ -247,6 +252,13 @@ class Engine:
         except (CoProcessEnded, asyncio.TimeoutError):
             return False
         return self.is_whole
+
+    async def until_ended(self) -> None:
+        """Returns after the co-process has ended, and no other one has taken its place."""
+        process: CoProcess | None = None
+        while process is not self.process:
+            process = self.process
+            await asyncio.shield(process.gone)
 
     @property
     def state(self) -> list[bytes] | None:

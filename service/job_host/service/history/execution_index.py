@@ -11,6 +11,7 @@ from collections.abc import Sequence
 from dataclasses import dataclass
 from typing import NamedTuple
 
+from job_host.catalogue.names import PLAIN_NAMES, JobNames
 from job_host.protocol.lines import read
 from job_host.service.history.answers import Answering
 from job_host.service.pages import Page
@@ -69,16 +70,15 @@ def parameter_text(parameters: dict[str, str], most: int) -> str:
     return text if len(text) <= most else text[: most - 1] + "\u2026"
 
 
-def row_of(seen: int, reply: bytes) -> Row:
-    one = read(reply).get("job_execution")
-    return Row(seen) if one is None else Row(seen, one["instance"], one["job"], one["status"], one["exit"] or "")
-
-
 class ExecutionIndex:
-    """Rows of one history. It is told of each operation, and asks for what a list needs and isn't known."""
+    """Rows of one history. It is told of each operation, and asks for what a list needs and isn't known.
 
-    def __init__(self, engine: Answering) -> None:
+    A row has the job's name: versions are told apart elsewhere.
+    """
+
+    def __init__(self, engine: Answering, names: JobNames = PLAIN_NAMES) -> None:
         self._engine = engine
+        self._names = names
         self._rows: dict[int, Row] = {}
         # As texts, of those that were searched. They never change.
         self._parameters: dict[int, str] = {}
@@ -160,11 +160,17 @@ class ExecutionIndex:
             unknown = [one for one in block if not self._is_known(one)]
             seen = self._engine.entered
             told = await self._ask(ASK_EXECUTION, unknown)
-            self._rows.update((one, row_of(seen, reply)) for one, reply in zip(unknown, told))
+            self._rows.update((one, self._row(seen, reply)) for one, reply in zip(unknown, told))
             if with_parameters:
                 missing = [one for one in block if one not in self._parameters]
                 texts = [read(reply).get("parameters", {}) for reply in await self._ask(ASK_PARAMETERS, missing)]
                 self._parameters.update((one, parameter_text(text, PARAMETER_CHARACTERS)) for one, text in zip(missing, texts))
+
+    def _row(self, seen: int, reply: bytes) -> Row:
+        one = read(reply).get("job_execution")
+        if one is None:
+            return Row(seen)
+        return Row(seen, one["instance"], self._names.name_of(one["job"]), one["status"], one["exit"] or "")
 
     async def _ask(self, line: bytes, executions: Sequence[int]) -> list[bytes]:
         return (await self._engine.ask([line % one for one in executions])).replies if executions else []

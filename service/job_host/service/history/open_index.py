@@ -13,6 +13,7 @@ from heapq import merge
 from itertools import islice
 from typing import Any, NamedTuple
 
+from job_host.catalogue.names import PLAIN_NAMES, JobNames
 from job_host.protocol.batch_statuses import UNFINISHED
 from job_host.service.history.answers import Answering
 from job_host.service.history.execution_index import ASK_EXECUTION, BLOCK, ExecutionIndex
@@ -37,6 +38,7 @@ class Running(NamedTuple):
     job: str
     status: str
     start: int
+    version: int = 1
 
 
 class Completed(NamedTuple):
@@ -76,15 +78,24 @@ class RisingNumbers:
 
 
 class OpenIndex:
-    """Job executions of one history, each in one list at most. `busy` has those of which work items are busy."""
+    """Job executions of one history, each in one list at most. `busy` has those of which work items are busy.
+
+    Lists and pasts are those of a job's name: `may_restart` alone is asked for a version.
+    """
 
     def __init__(
-        self, engine: Answering, executions: ExecutionIndex, busy: Mapping[int, int], may_restart: Callable[[str], bool]
+        self,
+        engine: Answering,
+        executions: ExecutionIndex,
+        busy: Mapping[int, int],
+        may_restart: Callable[[str], bool],
+        names: JobNames = PLAIN_NAMES,
     ) -> None:
         self._engine = engine
         self._executions = executions
         self._busy = busy
         self._may_restart = may_restart
+        self._names = names
         # Up to this number all were looked at. Of these, the ones that have changed since then.
         self._looked = 0
         self._changed: set[int] = set()
@@ -138,19 +149,20 @@ class OpenIndex:
         self._running.pop(execution, None)
         if told is None:
             return
-        job, status = told["job"], told["status"]
+        (job, version), status = self._names.of(told["job"]), told["status"]
         if status in UNFINISHED:
-            self._put_unfinished(execution, told)
+            self._put_unfinished(execution, {**told, "job": job}, version)
         elif status == "COMPLETED":
             self._note_completed(job, execution, told)
         elif status == "ABANDONED":
             self._past[job] = [one for one in self._past.get(job, ()) if one.execution != execution]
-        elif status in RESTARTABLE and self._executions.is_newest(execution) and self._may_restart(job):
+        elif status in RESTARTABLE and self._executions.is_newest(execution) and self._may_restart(told["job"]):
             self._put_in_list(execution, status, job)
 
-    def _put_unfinished(self, execution: int, told: Mapping[str, Any]) -> None:
+    def _put_unfinished(self, execution: int, told: Mapping[str, Any], version: int) -> None:
         if told["start"] is not None:
-            self._running[execution] = Running(execution, told["instance"], told["job"], told["status"], told["start"])
+            head = (execution, told["instance"], told["job"], told["status"], told["start"])
+            self._running[execution] = Running(*head, version)
         if execution not in self._busy:
             self._put_in_list(execution, WAITING, told["job"])
 

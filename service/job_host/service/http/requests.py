@@ -28,6 +28,8 @@ ANYBODY = "anybody"
 
 # Words of a query that say which page of a list is meant.
 PAGE_WORDS = ("page", "pageSize")
+# The row of a list at which a page may begin at the farthest.
+FARTHEST_ROW = 1_000_000
 # Words of a query that may come several times.
 SEVERAL = frozenset({"status", "instanceState"})
 # Words of Open Liberty that say in which application a job is.
@@ -148,11 +150,10 @@ class Asked:
         return number(self.request.query.get(name, str(default)), name)
 
     def page(self, most: int) -> Page:
-        """The page of a list that is meant, with so many rows at most. It begins within as many as there can be."""
+        """The page of a list that is meant, with so many rows at most. It doesn't begin farther than any page may."""
         page, size = self.query_number("page", 0), self.query_number("pageSize", USUAL_SIZE)
-        there = self.host.settings.history.most
-        if not 0 < size <= most or page * size > there:
-            raise bad_request(f"a page has 1 to {most} rows, and begins within the first {there}")
+        if not 0 < size <= most or page * size > FARTHEST_ROW:
+            raise bad_request(f"a page has 1 to {most} rows, and begins within the first {FARTHEST_ROW}")
         return Page(page * size, size)
 
     def page_of_large_rows(self) -> Page:
@@ -167,7 +168,7 @@ class Asked:
 
     async def body(self) -> dict[str, Any]:
         """The body, an object of JSON. Without a body it is the empty object."""
-        text = await self._bytes()
+        text = await self.data()
         if not text:
             return {}
         if self.request.content_type != "application/json":
@@ -180,7 +181,8 @@ class Asked:
             raise bad_request("the body is no object")
         return value
 
-    async def _bytes(self) -> bytes:
+    async def data(self) -> bytes:
+        """The body as it came."""
         try:
             return await asyncio.wait_for(self.request.read(), self.host.settings.bounds.slow_after)
         except asyncio.TimeoutError as fault:

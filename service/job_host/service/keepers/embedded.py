@@ -8,10 +8,10 @@ from __future__ import annotations
 import asyncio
 import logging
 import sqlite3
-from collections.abc import Callable, Sequence
+from collections.abc import Awaitable, Callable, Sequence
 from concurrent.futures import ThreadPoolExecutor
 from contextlib import suppress
-from typing import TypeVar
+from typing import TYPE_CHECKING, TypeVar
 
 from job_host.catalogue import growth, jobs
 from job_host.catalogue.faults import NoVerdict
@@ -35,6 +35,9 @@ from job_host.service.terms.leases import Leases
 from job_host.service.terms.sessions import Sessions
 from job_host.service.terms.term import Observers, TermSettings, not_yet
 
+if TYPE_CHECKING:
+    from job_host.service.keepers.embedded_jobs import EmbeddedJobs
+
 log = logging.getLogger(__name__)
 
 T = TypeVar("T")
@@ -46,7 +49,12 @@ PRUNE_SECONDS = 3_600.0
 # How many keys are dropped at a time, so that calls needn't wait for all.
 PRUNED = 5_000
 IN_USE_SECONDS = 10.0
+# A batchctl that is to end has so long.
+END_SECONDS = 60.0
 LOG_NAME = "history.log"
+
+# The catalogue to try next, after batchctl has refused one.
+Arrange = Callable[[bytes, CatalogueRefused], Awaitable[bytes]]
 
 
 class EmbeddedKeeper(Keeper):
@@ -58,10 +66,18 @@ class EmbeddedKeeper(Keeper):
         self._observers = observers
         self._file = served.line
         self._log = settings.data / LOG_NAME
-        self._replayed = ReplayedLog(settings.batchctl, self._log)
+        self._replayed = ReplayedLog(settings.batchctl, self._log, self.names)
         self._sessions = Sessions({}, settings.bounds.clients)
         self._beside: Beside | None = None
+        self._process: CoProcess | None = None
+        self._jobs: EmbeddedJobs | None = self._jobs_of_folder() if served.files is not None else None
         self._closing = asyncio.Event()
+
+    def _jobs_of_folder(self) -> EmbeddedJobs:
+        """Only a folder needs what reads JSL."""
+        from job_host.service.keepers.embedded_jobs import EmbeddedJobs
+
+        return EmbeddedJobs(self._settings)
 
     async def run(self) -> None:
         make_private(self._settings.data)
@@ -83,7 +99,7 @@ class EmbeddedKeeper(Keeper):
         """Serves until something fails. What fails throws the co-process away. The engine goes on with another one."""
         self.role = "starting"
         self._refuse_later()
-        process = await self._start()
+        process = self._process = await self._start()
         thread = ThreadPoolExecutor(1, "beside")
         store: SqliteStore | None = None
         try:
@@ -95,7 +111,7 @@ class EmbeddedKeeper(Keeper):
             raise unavailable("StoreLost", f"{type(fault).__name__}: {fault}") from fault
         finally:
             self.role, self.term, self.engine, self._beside = "starting", None, None, None
-            await self._end(process)
+            await self._end(self._process)
             thread.shutdown(wait=True)
             if store is not None:
                 store.close()
@@ -135,26 +151,65 @@ class EmbeddedKeeper(Keeper):
                 raise
             raise Fatal(f"{self._settings.data / STORE_NAME} is damaged: {fault}") from fault
 
-    async def _end(self, process: CoProcess) -> None:
+    async def _end(self, process: CoProcess | None) -> None:
         """Lets the co-process end by itself, so that its log has a clean end; else it is killed."""
+        if process is None:
+            return
         with suppress(asyncio.TimeoutError):
             await asyncio.wait_for(process.finish(), 5.0)
         await process.close()
 
     async def _start(self) -> CoProcess:
-        """The co-process over its log. One that is still in use by a program that ends is waited for.
-
-        batchctl looks at the file first. If it is whole and has the jobs in another order, they are put into that order.
-        """
+        """The co-process over its log, whose jobs may be in another order: then they are put into that order."""
         await check_catalogue(self._settings.batchctl, self.served)
+        if self._jobs is None:
+            return await self._open(self._file, self._in_order)
+        return await self._start_jobs(self._jobs)
+
+    async def _start_jobs(self, jobs: EmbeddedJobs) -> CoProcess:
+        """The co-process over its log, with the versions that are kept, and with those that the folder of `--jobs` brings.
+
+        These are on the disk with their files before batchctl is told of them.
+        """
+        self.book = jobs.load()
+        process = await self._open(self.book.line, self._behind_the_log) if self._log.exists() else None
+        try:
+            found = await asyncio.to_thread(jobs.plan, self.served)
+            await asyncio.to_thread(jobs.keep, found.changes)
+            await asyncio.to_thread(jobs.keep_seen, found)
+        except BaseException:
+            if process is not None:
+                await self._end(process)
+            raise
+        self.book.enter(found.changes)
+        if process is not None and process.catalogue == self.book.line:
+            return process
+        if process is not None:
+            await self._end(process)
+        return await self._open(self.book.line, self._behind_the_log)
+
+    async def _behind_the_log(self, given: bytes, refused: CatalogueRefused) -> bytes:
+        """The catalogue that the log has, with the versions that it lacks behind it."""
+        kept = log_file.catalogue_of(self._log)
+        if kept is None or self.book is None:
+            raise Fatal(f"{self._log}: {refused}") from refused
+        self.book.take_over(kept)
+        if self.book.line == given:
+            raise Fatal(f"{self._log}: {refused}") from refused
+        return self.book.line
+
+    async def _open(self, catalogue: bytes, arrange: Arrange) -> CoProcess:
+        """Opens the log. One that is still in use by a program that ends is waited for.
+
+        batchctl looks at the file first. If it is whole and has other jobs, another catalogue is tried.
+        """
         words = [*self._settings.batchctl, "script", "--log", str(self._log), "--tags"]
-        catalogue = self._file
         for _ in range(int(IN_USE_SECONDS / RETRY)):
             try:
                 return await CoProcess.start(words, catalogue)
             except CatalogueRefused as refused:
                 if growth.other_job(refused.fault) is not None:
-                    catalogue = await self._in_order(catalogue, refused)
+                    catalogue = await arrange(catalogue, refused)
                     continue
                 if b"LogInUse" not in refused.fault:
                     raise Fatal(f"{self._log}: {refused}") from refused
@@ -185,6 +240,7 @@ class EmbeddedKeeper(Keeper):
         settings = TermSettings(self._settings.history.refuse_from)
         term = EmbeddedTerm(beside, self.history, engine, self._sessions, settings, self._observers)
         self.term, self.role, self.epoch = term, "leader", self.epoch + 1
+        self._begin_changes(term)
         log.warning("serves after %d operations", engine.entered)
         tasks = [
             term.commit_rounds(),
@@ -195,11 +251,63 @@ class EmbeddedKeeper(Keeper):
             self.watch(engine),
         ]
         try:
-            await first_of([*tasks, engine.process.wait(), self._closing.wait()])
+            await first_of([*tasks, engine.until_ended(), self._closing.wait()])
         finally:
             engine.process.log_end()
             self.role, self.term, self.engine = "starting", None, None
             term.fail(unavailable("Starting", "this instance ends, or begins again"))
+            await self._end_changes()
+
+    def _begin_changes(self, term: EmbeddedTerm) -> None:
+        """From now on jobs may change, if they are those of a folder."""
+        if self._jobs is not None:
+            self.changes = self._jobs.changes(term, lambda line: self._grow(term, line), self._note_change)
+
+    def _note_change(self) -> None:
+        """Each change of jobs begins an epoch: consoles read them again."""
+        self.epoch += 1
+
+    async def _end_changes(self) -> None:
+        changes, self.changes = self.changes, None
+        if changes is not None:
+            await changes.stop()
+
+    async def _grow(self, term: EmbeddedTerm, catalogue: bytes) -> None:
+        """Lets another co-process go on over the log, with a catalogue that has grown. Lines wait meanwhile."""
+        engine = term.engine
+        async with engine.turn:
+            if term.failure is not None:
+                raise term.failure
+            before = engine.process
+            before.hold()
+            try:
+                status = await asyncio.wait_for(before.finish(), END_SECONDS)
+                if status != 0:
+                    raise CoProcessEnded(f"batchctl ended with status {status}: {before.errors}", status)
+                self._process = await asyncio.wait_for(self._open(catalogue, self._refuse), END_SECONDS)
+            except BaseException as fault:
+                before.give_up()
+                await before.close()
+                if isinstance(fault, (CoProcessEnded, Fatal, asyncio.TimeoutError)):
+                    raise unavailable("CoProcessEnded", f"the change may have been kept: {fault}") from fault
+                raise
+            engine.process = self._process
+            before.go_on_in(self._process)
+
+    async def _refuse(self, given: bytes, refused: CatalogueRefused) -> bytes:
+        raise Fatal(f"{self._log}: {refused}") from refused
+
+    async def read_folder(self, served: ServedJobs) -> None:
+        """Reads it as soon as the service leads."""
+        from job_host.service.keepers.job_changes import check_folder
+
+        await asyncio.to_thread(check_folder, self._settings.batchctl, served)
+        self.served = served
+        while (changes := self.changes) is None and not self._closing.is_set():
+            await asyncio.sleep(RETRY)
+        if changes is not None and self._jobs is not None:
+            found = await changes.read_folder(served, self._jobs.seen)
+            await asyncio.to_thread(self._jobs.keep_seen, found)
 
     async def _forget_names(self, beside: Beside, term: EmbeddedTerm) -> None:
         """Forgets client names that hold no work item and weren't heard for long."""

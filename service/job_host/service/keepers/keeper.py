@@ -8,9 +8,10 @@ from abc import ABC, abstractmethod
 from collections.abc import AsyncIterator, Awaitable, Mapping, Sequence
 from contextlib import asynccontextmanager
 from dataclasses import dataclass, replace
-from typing import Any
+from typing import TYPE_CHECKING, Any
 
-from job_host.catalogue.jobs import ServedJobs
+from job_host.catalogue.jobs import ForWorkers, ServedJobs
+from job_host.catalogue.names import PLAIN_NAMES, VERSIONED_NAMES
 from job_host.protocol.lines import query, read
 from job_host.service.history.actions import Action
 from job_host.service.history.answers import Answers
@@ -23,6 +24,10 @@ from job_host.service.terms.calls import SERVICE, SERVICE_SESSION, Call, Kept, L
 from job_host.service.terms.leases import Leases
 from job_host.service.terms.sessions import Silent
 from job_host.service.terms.term import Term
+from job_host.service.versions.book import JobBook
+
+if TYPE_CHECKING:
+    from job_host.service.keepers.job_changes import JobChanges
 
 log = logging.getLogger(__name__)
 
@@ -76,6 +81,10 @@ class Keeper(ABC):
         # The identity of the history, to which request keys and logs belong.
         self.history = ""
         self.last_takeover = 0.0
+        # Jobs of a folder have versions, and may change while they are served.
+        self.names = PLAIN_NAMES if served.files is None else VERSIONED_NAMES
+        self.book: JobBook | None = None
+        self.changes: JobChanges | None = None
 
     @abstractmethod
     async def run(self) -> None:
@@ -108,6 +117,40 @@ class Keeper(ABC):
     @abstractmethod
     async def client_names(self, sessions: Sequence[int]) -> dict[int, str]:
         """The names of these sessions, as far as they are known here."""
+
+    @property
+    def is_versioned(self) -> bool:
+        """Whether jobs have versions."""
+        return self.names is VERSIONED_NAMES
+
+    @abstractmethod
+    async def read_folder(self, served: ServedJobs) -> None:
+        """Takes over what has changed in the folder of `--jobs`. Raises a problem, JobsRefused or NoVerdict if it can't."""
+
+    def changing(self) -> JobChanges:
+        """Who changes jobs. Raises a problem if they are fixed, or if another instance leads."""
+        if not self.is_versioned:
+            raise Problem(
+                "JobsFixed", 409, "the jobs of --catalogue are fixed while they are served: --jobs FOLDER lets them change"
+            )
+        self.leading()
+        if self.changes is None:
+            raise unavailable("Starting", "the jobs aren't known yet")
+        return self.changes
+
+    def known_jobs(self) -> JobBook:
+        """The versions of jobs. Raises a problem if they are fixed, or aren't known yet."""
+        if not self.is_versioned:
+            raise Problem("JobsFixed", 409, "the jobs of --catalogue are fixed while they are served, and have no versions")
+        if self.book is None:
+            raise unavailable("Starting", "the jobs aren't known yet")
+        return self.book
+
+    def for_workers(self, job: str) -> ForWorkers:
+        """What a job of the catalogue has for workers, in this very version. Raises FileNotKept."""
+        if self.book is not None:
+            return self.book.for_workers(job)
+        return (self.served.for_workers or {}).get(job, ForWorkers())
 
     @property
     def is_ready(self) -> bool:

@@ -95,7 +95,7 @@ async def open_items(keeper: Keeper, wanted: OpenWanted, at_least: int = 0) -> O
 async def _to_restart(steps: Steps, wanted: OpenWanted) -> list[tuple[Told, list[Cause]]]:
     numbers = steps.engine.open.restartable(wanted.statuses, wanted.job, wanted.page)
     replies = [read(reply) for reply in await steps.ask([line for one in numbers for line in cause_queries(one)])]
-    told = [one["job_execution"] for one in replies[::2]]
+    told = [steps.engine.names.told(one["job_execution"]) for one in replies[::2]]
     return [(one, causes_in(steps.engine, one, more["step_executions"])) for one, more in zip(told, replies[1::2])]
 
 
@@ -118,7 +118,8 @@ async def _waiting(keeper: Keeper, steps: Steps, wanted: OpenWanted) -> tuple[li
         return [], 0
     numbers = steps.engine.open.waiting(wanted.job, wanted.page)
     replies = await steps.ask([query("job_execution", execution=one) for one in numbers])
-    return [read(reply)["job_execution"] for reply in replies], steps.engine.open.count(WAITING, wanted.job)
+    told: list[Told] = [steps.engine.names.told(read(reply)["job_execution"]) for reply in replies]
+    return told, steps.engine.open.count(WAITING, wanted.job)
 
 
 def _late(keeper: Keeper, engine: Engine, wanted: OpenWanted) -> list[tuple[Held, Running | None]] | None:
@@ -165,7 +166,7 @@ async def causes_for(keeper: Keeper, execution: int, at_least: int) -> tuple[ToR
     problem = of_refusal(told, answers.seen)
     if problem is not None:
         raise problem
-    one = told["job_execution"]
+    one = keeper.names.told(told["job_execution"])
     causes = causes_in(keeper.reading(), one, steps["step_executions"])
     (shown,) = await with_logs(keeper, [causes])
     return ToRestart(one, shown, len(causes)), answers.seen

@@ -10,7 +10,7 @@ import time
 import uuid
 from collections.abc import Awaitable, Callable, Sequence
 from contextlib import suppress
-from typing import TypeVar
+from typing import TYPE_CHECKING, TypeVar
 
 from job_host.catalogue import growth, jobs
 from job_host.catalogue.faults import NoVerdict
@@ -27,6 +27,9 @@ from job_host.service.terms.calls import LogPage, LogSize, WorkLog
 from job_host.service.terms.leases import Leases
 from job_host.service.terms.sessions import Sessions
 from job_host.service.terms.term import Observers, TermSettings, not_yet
+
+if TYPE_CHECKING:
+    from job_host.service.keepers.postgres_jobs import PostgresJobs
 
 log = logging.getLogger(__name__)
 
@@ -62,9 +65,16 @@ class PostgresKeeper(Keeper):
         self._kept: Engine | None = None
         self._entered_epoch = 0
         self._sessions = Sessions({}, settings.bounds.clients)
+        self._jobs = self._jobs_of_folder() if served.files is not None else None
         self._poke = asyncio.Event()
         self._followed = asyncio.Condition()
         self._closing = asyncio.Event()
+
+    def _jobs_of_folder(self) -> PostgresJobs:
+        """Only a folder needs what reads JSL."""
+        from job_host.service.keepers.postgres_jobs import PostgresJobs
+
+        return PostgresJobs(self._settings)
 
     async def run(self) -> None:
         await check_catalogue(self._settings.batchctl, self.served)
@@ -94,6 +104,7 @@ class PostgresKeeper(Keeper):
         watching: asyncio.Future[None] | None = None
         try:
             engine = self.engine = await self._engine_over(store)
+            await self._load_jobs(store)
             watching = asyncio.ensure_future(self.watch(engine))
             epoch = await self._follow(store, engine)
             if epoch is not None:
@@ -132,7 +143,7 @@ class PostgresKeeper(Keeper):
         return await store.operations_after(first - 1, self._entered_epoch, len(recent)) == recent
 
     async def _start_engine(self) -> Engine:
-        return Engine(await CoProcess.start([*self._settings.batchctl, "script"], self._catalogue))
+        return Engine(await CoProcess.start([*self._settings.batchctl, "script"], self._catalogue), self.names)
 
     async def _throw_away(self) -> None:
         engine, self._kept = self._kept, None
@@ -143,24 +154,23 @@ class PostgresKeeper(Keeper):
         """The catalogue to go by; and again, if it is to be kept.
 
         At its start an instance has a file with each kept job. Later another instance may bring more jobs, which it takes over.
+        Jobs of a folder have versions: the kept catalogue has them all.
         """
         if kept is None:
             return self._file, self._file
+        if self._jobs is not None:
+            return kept, None
         batchctl = self._settings.batchctl
         if self._has_begun and not await asyncio.to_thread(growth.changed_jobs, batchctl, self._file, kept):
-            self._refuse_others_jobs(kept)
             return kept, None
         grown = await asyncio.to_thread(growth.grown, batchctl, kept, self._file)
         has_grown = len(jobs.jobs_of(grown)) > len(jobs.jobs_of(kept))
         return (grown, grown) if has_grown else (kept, None)
 
-    def _refuse_others_jobs(self, kept: bytes) -> None:
-        """Without the file of a job this instance can't resolve its properties. So it doesn't stand by for such a job."""
-        known = self.served.properties
-        others = [name for name in jobs.jobs_of(kept) if known is not None and name not in known]
-        if others:
-            told = ", ".join(map(repr, others))
-            raise growth.CatalogueChanged(f"another instance has brought {told}, which this one has no file of")
+    async def _load_jobs(self, store: PostgresStore) -> None:
+        """Reads who has changed which jobs."""
+        if self._jobs is not None:
+            self.book = await self._jobs.load(store, self._catalogue)
 
     async def _follow(self, store: PostgresStore, engine: Engine) -> int | None:
         """Follows the table until it may lead. Returns the epoch, or none if the service is to end."""
@@ -171,7 +181,7 @@ class PostgresKeeper(Keeper):
                 raise CoProcessEnded(f"batchctl ended with status {engine.process.status}: {engine.process.errors}")
             leader = await store.leader()
             if last is None or leader.epoch != last.epoch:
-                await self._look_at_epoch(store, leader)
+                await self._look_at_epoch(store, engine, leader)
             await self._catch_up(store, engine, leader.epoch)
             if leader != last:
                 last, since = leader, time.monotonic()
@@ -187,11 +197,19 @@ class PostgresKeeper(Keeper):
                 await asyncio.wait_for(self._poke.wait(), POLL)
         return None
 
-    async def _look_at_epoch(self, store: PostgresStore, leader: Leader) -> None:
-        """A new leader may have brought a catalogue with more jobs."""
-        chosen, _ = await self._choose(await store.catalogue())
+    async def _look_at_epoch(self, store: PostgresStore, engine: Engine, leader: Leader) -> None:
+        """With a new epoch the catalogue may have more jobs. Versions of jobs are taken over while reads go on."""
+        chosen, bring = await self._choose(await store.catalogue())
+        if self._jobs is not None and bring is None and chosen != self._catalogue:
+            grown = await self._jobs.grown(store, engine, chosen, leader.epoch)
+            try:
+                await grown.take_place(leader.epoch)
+            finally:
+                await grown.close()
+            self._catalogue, self._bring = chosen, None
         if chosen != self._catalogue:
             raise CatalogueGrew(f"by epoch {leader.epoch}")
+        await self._load_jobs(store)
 
     async def _catch_up(self, store: PostgresStore, engine: Engine, epoch: int) -> None:
         """Replays what the table has more than the co-process, up to this epoch, whose catalogue the co-process has.
@@ -220,22 +238,57 @@ class PostgresKeeper(Keeper):
         self.history = (await store.leader()).history
         settings = TermSettings(self._settings.history.refuse_from, beat)
         term = PostgresTerm(store, epoch, engine, self._sessions, settings, self._observers)
-        self.term, self.role, self.epoch, self._bring = term, "leader", epoch, None
-        self.leader_url = self._settings.advertise
-        self.last_takeover = time.monotonic() - begun
-        log.warning("leads by epoch %d, after %d operations", epoch, engine.entered)
-        async with self._followed:
-            self._followed.notify_all()
+        self._bring = None
+        if self._jobs is None:
+            await self._open_doors(term, begun)
         rounds = [term.commit_rounds(), term.desk.serve(), term.desk.watch(), self.leases.watch(term), self._prune(store, term)]
+        if self._jobs is not None:
+            rounds.append(self._lead_jobs(store, term, begun))
         try:
-            await first_of([*rounds, engine.process.wait(), self._closing.wait()])
+            await first_of([*rounds, engine.until_ended(), self._closing.wait()])
         finally:
             # Its co-process may know more than the table: nobody reads it before that is known.
             engine.process.log_end()
             self.role, self.term, self.engine = "starting", None, None
             if engine.process.has_ended or (self._closing.is_set() and term.failure is None):
-                await self._resign(store, epoch)
+                await self._resign(store, term.epoch)
             term.fail(unavailable("NotLeader", "this instance leads no more"))
+            changes, self.changes = self.changes, None
+            if changes is not None:
+                await changes.stop()
+
+    async def _open_doors(self, term: PostgresTerm, begun: float) -> None:
+        """From now on this instance takes calls."""
+        self.term, self.role, self.epoch = term, "leader", term.epoch
+        self.leader_url = self._settings.advertise
+        self.last_takeover = time.monotonic() - begun
+        log.warning("leads by epoch %d, after %d operations", term.epoch, term.engine.entered)
+        async with self._followed:
+            self._followed.notify_all()
+
+    async def _lead_jobs(self, store: PostgresStore, term: PostgresTerm, begun: float) -> None:
+        """Takes in what the folder of `--jobs` changes, and then calls. Notes later epochs of this term, for ever."""
+        if self._jobs is None:
+            return
+        book = self.book = await self._jobs.load(store, self._catalogue)
+        changes = self._jobs.changes(store, term, book)
+        await self._jobs.begin(changes, book, self.served)
+        self._note_epoch(term)
+        self.changes = changes
+        await self._open_doors(term, begun)
+        while True:
+            await term.grown.wait()
+            self._note_epoch(term)
+
+    def _note_epoch(self, term: PostgresTerm) -> None:
+        term.grown.clear()
+        self.epoch = self._entered_epoch = term.epoch
+
+    async def read_folder(self, served: ServedJobs) -> None:
+        """The leader reads it. Another instance reads its own when it leads."""
+        self.served = served
+        if self._jobs is not None and self.changes is not None:
+            await self._jobs.read_folder(self.changes, served)
 
     @staticmethod
     async def _resign(store: PostgresStore, epoch: int) -> None:

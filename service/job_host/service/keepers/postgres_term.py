@@ -12,6 +12,7 @@ from job_host.service.problems import Problem, unavailable
 from job_host.service.stores.postgres import LOST, PostgresStore
 from job_host.service.terms.calls import Item, Kept, KeptRequest
 from job_host.service.terms.term import Term
+from job_host.service.versions.changes import Growth
 
 log = logging.getLogger(__name__)
 
@@ -24,6 +25,8 @@ class PostgresTerm(Term):
         self._store = store
         self._kept_sessions = set(self.sessions.numbers())
         self.epoch = epoch
+        # Set as its epoch becomes a later one.
+        self.grown = asyncio.Event()
 
     async def find(self, session: int, key: str) -> KeptRequest | None:
         try:
@@ -66,6 +69,20 @@ class PostgresTerm(Term):
         if not stands:
             raise unavailable("NotLeader", "another instance has taken over")
         self._kept_sessions.update(clients.values())
+        for growth in [item.growth for item in items if item.growth is not None]:
+            await self._grow(growth)
+
+    async def _grow(self, growth: Growth) -> None:
+        """Keeps changes of jobs. From then on this term has a later epoch."""
+        try:
+            epoch = await self._store.grow(self.epoch, growth)
+        except LOST as fault:
+            log.warning("a change of jobs failed: %s %s", type(fault).__name__, fault)
+            raise unavailable("CommitFailed", "the change may have been kept: ask again by its key") from fault
+        if epoch is None:
+            raise unavailable("NotLeader", "another instance has taken over")
+        self.epoch = epoch
+        self.grown.set()
 
 
 @asynccontextmanager

@@ -12,6 +12,7 @@ from collections.abc import AsyncIterator, Awaitable, Callable, Iterable, Sequen
 from pathlib import Path
 from typing import NamedTuple
 
+from job_host.catalogue.names import PLAIN_NAMES, JobNames
 from job_host.service.history import log_file
 from job_host.service.history.answers import Answers
 from job_host.service.history.coprocess import CoProcess
@@ -56,9 +57,10 @@ async def answered(process: CoProcess, parts: Iterable[list[bytes]]) -> AsyncIte
 
 
 class ReplayedLog:
-    def __init__(self, batchctl: Sequence[str], path: Path) -> None:
+    def __init__(self, batchctl: Sequence[str], path: Path, names: JobNames = PLAIN_NAMES) -> None:
         self._words = [*batchctl, "script"]
         self._path = path
+        self._names = names
         self._kept: Engine | None = None
 
     def keep(self, engine: Engine) -> None:
@@ -92,7 +94,7 @@ class ReplayedLog:
                 return engine, told if knows_all else None
             log.warning("%s isn't what was entered before: all of it is replayed", self._path)
         self._kept = None
-        return Engine(process), None
+        return Engine(process, self._names), None
 
     async def _replay(self, engine: Engine, process: CoProcess, search: Search, note: Note) -> None:
         """Hands all lines to another batchctl, and enters those behind the engine's."""

@@ -3,6 +3,7 @@
 from __future__ import annotations
 
 from collections.abc import Sequence
+from dataclasses import replace
 from typing import Any
 
 from aiohttp import web
@@ -37,19 +38,26 @@ async def start_instance(asked: Asked) -> web.StreamResponse:
         raise bad_request(f"a start that says once needs the header {REQUEST_KEY}")
     members = {"job": job, "parameters": body.get("jobParameters", {})}
     call = Call(asked.client, "start", members, asked.key, fingerprint("start", members), is_once=is_once)
+    if asked.keeper.is_versioned and isinstance(job, str):
+        call = replace(call, resolve=lambda: to_start(asked, members))
     return begun(asked, await asked.keeper.submit(call), 201)
+
+
+async def to_start(asked: Asked, members: Members) -> Members:
+    """The members of a start, with the newest version of its job."""
+    return {**members, "job": asked.keeper.known_jobs().id_to_start(members["job"])}
 
 
 def begun(asked: Asked, kept: Kept, status: int) -> web.StreamResponse:
     told = answer_of(kept.reply, kept.seen)
-    return asked.answer(views.begun(told["execution"], read(kept.answers[0])), kept.seen, status)
+    return asked.answer(views.begun(told["execution"], asked.keeper.names.told(read(kept.answers[0]))), kept.seen, status)
 
 
 async def instances_of(steps: Steps, numbers: Sequence[int]) -> list[dict[str, Any]]:
     """Job instances, each with links to the first page of its job executions."""
     linked = [await steps.executions_of(number, Page(0, USUAL_SIZE)) for number in numbers]
     replies = await steps.ask([query("job_execution", execution=executions[0]) for executions in linked])
-    told = [answer_of(reply, steps.seen)["job_execution"] for reply in replies]
+    told = [steps.engine.names.told(answer_of(reply, steps.seen)["job_execution"]) for reply in replies]
     return [views.job_instance(newest, executions) for newest, executions in zip(told, linked)]
 
 
@@ -110,7 +118,7 @@ async def list_executions(asked: Asked) -> web.StreamResponse:
     async with asked.keeper.steps(asked.at_least) as steps:
         executions = await steps.executions_of(asked.path_number(), page)
         replies = await steps.ask([line for execution in executions for line in execution_queries(execution)])
-    shown = [show(replies[place : place + 3], steps.seen) for place in range(0, len(replies), 3)]
+    shown = [show(asked, replies[place : place + 3], steps.seen) for place in range(0, len(replies), 3)]
     return asked.answer(shown, steps.seen)
 
 
@@ -119,14 +127,16 @@ def execution_queries(execution: int) -> list[bytes]:
     return [query(ask, execution=execution) for ask in asks]
 
 
-def show(replies: list[bytes], seen: int) -> dict[str, Any]:
+def show(asked: Asked, replies: list[bytes], seen: int) -> dict[str, Any]:
     execution, parameters, steps = [answer_of(reply, seen) for reply in replies]
-    return views.job_execution(execution["job_execution"], parameters["parameters"], steps["step_executions"])
+    return views.job_execution(
+        asked.keeper.names.told(execution["job_execution"]), parameters["parameters"], steps["step_executions"]
+    )
 
 
 async def show_execution(asked: Asked) -> web.StreamResponse:
     answers = await asked.keeper.ask(execution_queries(asked.path_number()), asked.at_least)
-    return asked.answer(show(answers.replies, answers.seen), answers.seen)
+    return asked.answer(show(asked, answers.replies, answers.seen), answers.seen)
 
 
 async def change_execution(asked: Asked) -> web.StreamResponse:
@@ -158,7 +168,8 @@ async def list_jobs(asked: Asked) -> web.StreamResponse:
     """The jobs that have job instances, and how many job executions have each batch status."""
     answers = await asked.keeper.ask([query("job_names"), query("status_counts")], asked.at_least)
     names, counts = [answer_of(reply) for reply in answers.replies]
-    return asked.answer({"jobNames": names["names"], "statusCounts": counts["counts"]}, answers.seen)
+    told = list(dict.fromkeys(asked.keeper.names.name_of(name) for name in names["names"]))
+    return asked.answer({"jobNames": told, "statusCounts": counts["counts"]}, answers.seen)
 
 
 ROUTES = [

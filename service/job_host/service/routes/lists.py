@@ -18,9 +18,9 @@ from job_host.service.history.execution_index import Wanted, parameter_text
 from job_host.service.history.work_items import Ended
 from job_host.service.http.requests import PAGE_WORDS, Asked, Route
 from job_host.service.keepers.details import Details, details_of
-from job_host.service.keepers.keeper import HeldBy
+from job_host.service.keepers.keeper import HeldBy, Steps
 from job_host.service.pages import USUAL_SIZE
-from job_host.service.problems import Problem, bad_request
+from job_host.service.problems import Problem, bad_request, of_refusal
 from job_host.service.routes import views
 from job_host.service.routes.jobs import answer_of, instances_of
 
@@ -35,32 +35,80 @@ PARAMETER_CHARACTERS = 160
 catalogue_jobs = lru_cache(maxsize=2)(jobs_of)
 
 
-def catalogue_job(catalogue: bytes, name: str) -> Any:
-    jobs = catalogue_jobs(catalogue)
-    if name not in jobs:
+async def catalogue_job(asked: Asked, name: str) -> tuple[bytes, str]:
+    """The catalogue, and the id that a job has there: in the version that is wanted, else in the newest one."""
+    await asked.keeper.reach(asked.at_least)
+    catalogue, version = asked.keeper.reading().process.catalogue, asked.query_number("version", 0)
+    found = asked.keeper.names.versions_in(catalogue).get(name, [])
+    wanted = [job for job in found if version in (0, asked.keeper.names.of(job).version)]
+    if not wanted:
         raise Problem("JobStartException", 404, "the catalogue has no such job")
-    return jobs[name]
+    return catalogue, wanted[-1]
+
+
+async def show_job(asked: Asked, name: str) -> web.StreamResponse:
+    """A job as the catalogue has it, with its version if it has several."""
+    catalogue, job = await catalogue_job(asked, name)
+    told, names = catalogue_jobs(catalogue)[job], asked.keeper.names
+    if len(names.versions_in(catalogue)[name]) > 1:
+        told = {**told, "id": name, "version": names.of(job).version}
+    return web.json_response(told)
 
 
 async def show_catalogue(asked: Asked) -> web.StreamResponse:
     """The jobs that can be started, each with its newest job instance; or with `jobName` one job, as the catalogue has it."""
+    if "jobName" in asked.request.query:
+        return await show_job(asked, asked.request.query["jobName"])
     await asked.keeper.reach(asked.at_least)
-    catalogue = asked.keeper.reading().process.catalogue
-    name = asked.request.query.get("jobName")
-    if name is not None:
-        return web.json_response(catalogue_job(catalogue, name))
-    jobs = catalogue_jobs(catalogue)
+    names, book = asked.keeper.names.versions_in(asked.keeper.reading().process.catalogue), asked.keeper.book
+    names = {name: jobs for name, jobs in names.items() if book is None or not book.is_withdrawn(name)}
     async with asked.keeper.steps(asked.at_least) as steps:
-        counts = await steps.ask([query("job_instance_count", job=job) for job in jobs])
-        lists = await steps.ask([query("job_instances", job=job, start=0, count=1) for job in jobs])
-        newest = [one["instance"] for told in lists for one in read(told).get("instances", ())]
-        instances = await instances_of(steps, newest)
+        counted = await instance_counts(steps, [job for jobs in names.values() for job in jobs])
+        lists = [await newest_instances(steps, jobs, 0, 1) for jobs in names.values()]
+        instances = await instances_of(steps, [instance for some in lists for instance in some])
     by_job = {one["jobName"]: one for one in instances}
-    told = [
-        {"jobName": job, "instances": read(count).get("count", 0), "newest": by_job.get(job)}
-        for job, count in zip(jobs, counts)
+    shown = [
+        {"jobName": name, **version_in(asked, jobs), "instances": sum(counted[job] for job in jobs), "newest": by_job.get(name)}
+        for name, jobs in names.items()
     ]
-    return asked.answer({"jobs": told}, steps.seen)
+    return asked.answer({"jobs": shown}, steps.seen)
+
+
+def version_in(asked: Asked, jobs: Sequence[str]) -> dict[str, int]:
+    """The newest of a job's versions, if it is above 1."""
+    version = asked.keeper.names.of(jobs[-1]).version
+    return {"version": version} if version > 1 else {}
+
+
+async def instance_counts(steps: Steps, jobs: Sequence[str]) -> dict[str, int]:
+    """How many job instances each of these jobs of the catalogue has."""
+    replies = await steps.ask([query("job_instance_count", job=job) for job in jobs])
+    return {job: read(reply).get("count", 0) for job, reply in zip(jobs, replies, strict=True)}
+
+
+async def newest_instances(steps: Steps, jobs: Sequence[str], start: int, count: int) -> list[int]:
+    """The newest job instances of these jobs of the catalogue, without the first ones. Raises the refusal if none has any."""
+    words = {"start": start, "count": count} if len(jobs) == 1 else {"start": 0, "count": start + count}
+    told = [read(reply) for reply in await steps.ask([query("job_instances", job=job, **words) for job in jobs])]
+    numbers = [one["instance"] for some in told for one in some.get("instances", ())]
+    return numbers if len(jobs) == 1 else sorted(numbers, reverse=True)[start : start + count]
+
+
+def versions_of(asked: Asked, name: str) -> list[str]:
+    """What the catalogue has of a job, by its name. Another name is the repository's to refuse."""
+    names = asked.keeper.names
+    found = names.versions_in(asked.keeper.reading().process.catalogue).get(name)
+    if found is None and names.of(name).version > 1:
+        raise Problem("NoSuchJobException", 404, "a job has a name without its version")
+    return found or [name]
+
+
+async def refuse_unknown(steps: Steps, jobs: Sequence[str]) -> None:
+    """Raises the repository's refusal of a job without job instances."""
+    replies = await steps.ask([query("job_instance_count", job=job) for job in jobs])
+    problems = [of_refusal(read(reply), steps.seen) for reply in replies]
+    if problems[0] is not None and None not in problems:
+        raise problems[0]
 
 
 async def list_instances(asked: Asked) -> web.StreamResponse:
@@ -74,13 +122,13 @@ async def list_instances(asked: Asked) -> web.StreamResponse:
     states = statuses_of("instanceState", [state for text in given for state in text.split(",")])
     if states:
         return await list_with_state(asked, Wanted(states, job, most_recent=True), page * size, size)
+    jobs = [] if job is None else versions_of(asked, job)
     async with asked.keeper.steps(asked.at_least) as steps:
-        names = [job] if job is not None else read((await steps.ask([query("job_names")]))[0])["names"]
-        start, count = (page * size, size) if job is not None else (0, (page + 1) * size)
-        lists = await steps.ask([query("job_instances", job=name, start=start, count=count) for name in names])
-        numbers = [one["instance"] for told in lists for one in answer_of(told)["instances"]]
         if job is None:
-            numbers = sorted(numbers, reverse=True)[page * size : count]
+            jobs = read((await steps.ask([query("job_names")]))[0])["names"]
+        else:
+            await refuse_unknown(steps, jobs)
+        numbers = await newest_instances(steps, jobs, page * size, size)
         instances = await instances_of(steps, numbers)
     return asked.answer(instances, steps.seen)
 
@@ -92,7 +140,7 @@ async def list_with_state(asked: Asked, wanted: Wanted, start: int, count: int) 
     numbers, _ = await asked.keeper.reading().executions.find(wanted, start, count, most)
     async with asked.keeper.steps(counted.seen) as steps:
         if wanted.job is not None:
-            answer_of((await steps.ask([query("job_instance_count", job=wanted.job)]))[0], steps.seen)
+            await refuse_unknown(steps, versions_of(asked, wanted.job))
         told = [read(reply) for reply in await steps.ask([query("job_instance", execution=one) for one in numbers])]
         instances = await instances_of(steps, [one["instance"] for one in told if "instance" in one])
     return asked.answer([one for one in instances if one["instanceState"] in wanted.statuses], steps.seen)
@@ -150,7 +198,10 @@ async def list_all_executions(asked: Asked) -> web.StreamResponse:
     answers = await asked.keeper.ask(lines, counted.seen)
     counts, *replies = [read(reply) for reply in answers.replies]
     pairs = zip(replies[::2], replies[1::2])
-    there = [(told["job_execution"], parameters["parameters"]) for told, parameters in pairs if "job_execution" in told]
+    names = asked.keeper.names
+    there = [
+        (names.told(told["job_execution"]), parameters["parameters"]) for told, parameters in pairs if "job_execution" in told
+    ]
     rows = [brief(told, parameters) for told, parameters in there]
     if with_details:
         details = await details_of(asked.keeper, [told for told, _ in there], answers.seen)
@@ -227,7 +278,7 @@ async def show_caller(asked: Asked) -> web.StreamResponse:
 
 
 ROUTES = [
-    Route("GET", "/batch/catalogue", "read", show_catalogue, ("jobName", "atLeast")),
+    Route("GET", "/batch/catalogue", "read", show_catalogue, ("jobName", "version", "atLeast")),
     Route("GET", "/batch/jobinstances", "read", list_instances, (*PAGE_WORDS, "jobName", "instanceState", "atLeast")),
     Route("GET", "/batch/jobexecutions", "read", list_all_executions, (*WORDS_OF_EXECUTIONS, "atLeast")),
     Route("GET", "/batch/jobexecutions/{id}/workitems", "read", list_work_items, (*PAGE_WORDS, "atLeast")),

@@ -60,6 +60,7 @@ def long(one: Long) -> dict[str, Any]:
 def running(one: Running) -> dict[str, Any]:
     return {
         "jobName": one.job,
+        **version(one),
         "executionId": one.execution,
         "instanceId": one.instance,
         "batchStatus": one.status,
@@ -67,9 +68,14 @@ def running(one: Running) -> dict[str, Any]:
     }
 
 
+def version(one: Running) -> dict[str, int]:
+    return {"version": one.version} if one.version > 1 else {}
+
+
 def late(by: HeldBy, of: Running | None) -> dict[str, Any]:
     return {
         "jobName": None if of is None else of.job,
+        **({} if of is None else version(of)),
         "executionId": by.held.execution,
         "work": by.held.work,
         "stepName": by.held.element,

@@ -41,12 +41,10 @@ async def show_picture(asked: Asked) -> web.StreamResponse:
     name = asked.request.query.get("jobName")
     if name is None:
         raise bad_request("jobName is missing")
-    await asked.keeper.reach(asked.at_least)
-    catalogue = asked.keeper.reading().process.catalogue
-    catalogue_job(catalogue, name)
-    text = await asyncio.get_running_loop().run_in_executor(drawer, drawn, catalogue, name, wanted)
+    catalogue, job = await catalogue_job(asked, name)
+    text = await asyncio.get_running_loop().run_in_executor(drawer, drawn, catalogue, job, wanted)
     return web.Response(text=text, content_type="application/json")
 
 
-WORDS = ("jobName", "folded", "unfolded", "downwards", "atLeast")
+WORDS = ("jobName", "version", "folded", "unfolded", "downwards", "atLeast")
 ROUTES = [Route("GET", "/batch/catalogue/picture", "read", show_picture, WORDS)]

@@ -30,12 +30,18 @@ def instance_links(instance: int, executions: Sequence[int]) -> list[dict[str, s
     return told + [link("job execution", f"/batch/jobexecutions/{execution}") for execution in executions]
 
 
+def version_of(told: Told) -> dict[str, int]:
+    """The version of the job that a row tells, if it is above 1."""
+    return {"version": told["version"]} if "version" in told else {}
+
+
 def job_instance(newest: Told, executions: Sequence[int]) -> dict[str, Any]:
     """A job instance by its newest job execution, and with links to these."""
     instance = newest["instance"]
     return {
         "jobName": newest["job"],
         "jobXMLName": newest["job"],
+        **version_of(newest),
         "instanceId": instance,
         "batchStatus": newest["status"],
         "instanceState": newest["status"],
@@ -50,6 +56,7 @@ def job_execution_row(told: Told) -> dict[str, Any]:
     """A job execution without its parameters and step executions."""
     return {
         "jobName": told["job"],
+        **version_of(told),
         "executionId": told["execution"],
         "instanceId": told["instance"],
         "batchStatus": told["status"],
@@ -90,6 +97,7 @@ def begun(execution: int, instance: Told) -> dict[str, Any]:
     told: dict[str, Any] = {"executionId": execution}
     if "instance" in instance:
         told |= {"instanceId": instance["instance"], "jobName": instance["job"], "jobXMLName": instance["job"]}
+        told |= version_of(instance)
         told["_links"] = execution_links(execution, instance["instance"])
     return told
 
@@ -98,5 +106,5 @@ def work_item(work: Told, instance: Told, parameters: Told) -> dict[str, Any]:
     """A work item as the repository tells it, with the job and the parameters of its job execution."""
     told: dict[str, Any] = {"work": dict(work), "jobParameters": dict(parameters.get("parameters", {}))}
     if "instance" in instance:
-        told |= {"jobName": instance["job"], "instanceId": instance["instance"]}
+        told |= {"jobName": instance["job"], **version_of(instance), "instanceId": instance["instance"]}
     return told

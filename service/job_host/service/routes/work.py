@@ -8,7 +8,7 @@ from typing import Any
 
 from aiohttp import web
 
-from job_host.catalogue.properties import TooLarge
+from job_host.catalogue.properties import JobProperties, TooLarge
 from job_host.protocol.bounds import ARTIFACT_CHARACTERS, MOST_ARTIFACTS
 from job_host.protocol.headers import REQUEST_KEY
 from job_host.protocol.lines import Members, fingerprint, query, read
@@ -20,6 +20,7 @@ from job_host.service.problems import Problem, bad_request
 from job_host.service.routes import views
 from job_host.service.routes.jobs import answer_of
 from job_host.service.terms.calls import Call, Kept
+from job_host.service.versions.book import FileNotKept
 
 # Words of a query that narrow the list of busy work items.
 HELD_WORDS = ("executionId", "work")
@@ -57,19 +58,28 @@ def artifacts_of(names: Any) -> list[str]:
 def claimed(asked: Asked, kept: Kept) -> web.StreamResponse:
     told = answer_of(kept.reply, kept.seen)
     if "work" in told:
-        told = views.work_item(told["work"], read(kept.answers[0]), read(kept.answers[1]))
-        told |= properties_for(asked, told)
+        instance = read(kept.answers[0])
+        told = views.work_item(told["work"], asked.keeper.names.told(instance), read(kept.answers[1]))
+        told |= for_worker(asked, told, instance.get("job", ""))
         told["lease"] = asked.host.settings.lease
     return asked.answer(told, kept.seen)
 
 
-def properties_for(asked: Asked, told: Members) -> Members:
-    """What a claim is told of the properties of its work item: nothing if it has none."""
-    job = (asked.keeper.served.properties or {}).get(told.get("jobName", ""))
-    if job is None:
+def for_worker(asked: Asked, told: Members, job: str) -> Members:
+    """What a claim is told in its version of the job, if there is some: properties, and what the worker does for the step."""
+    if not job:
         return {}
     try:
-        properties = job.at_claim(told["work"], told["jobParameters"])
+        known = asked.keeper.for_workers(job)
+    except FileNotKept as fault:
+        return {"propertiesFault": str(fault)}
+    step = known.steps.get(told["work"]["element"])
+    return {**properties_for(known.properties, told), **({"step": step} if step else {})}
+
+
+def properties_for(known: JobProperties, told: Members) -> Members:
+    try:
+        properties = known.at_claim(told["work"], told["jobParameters"])
     except TooLarge as fault:
         return {"propertiesFault": str(fault)}
     return {"properties": properties} if properties else {}
@@ -103,7 +113,8 @@ async def list_held(asked: Asked) -> web.StreamResponse:
     ]
     if told and with_jobs:
         answers = await asked.keeper.ask([query("job_instance", execution=one["executionId"]) for one in told], seen)
-        told = [{**one, "jobName": read(reply).get("job")} for one, reply in zip(told, answers.replies)]
+        jobs = [asked.keeper.names.told(read(reply)) for reply in answers.replies]
+        told = [{**one, "jobName": of.get("job"), **views.version_of(of)} for one, of in zip(told, jobs)]
         seen = answers.seen
     return asked.answer(told, seen)
 

@@ -12,15 +12,19 @@ from typing import Any
 
 import asyncpg
 
-from job_host.protocol.lines import digest
+from job_host.catalogue.jobs import JobFile, SettingsFile
+from job_host.protocol.lines import compact, digest
 from job_host.service.history.engine import Record
 from job_host.service.stores.postgres_migrations import are_current, migrate
 from job_host.service.stores.postgres_schema import (
+    ADD_CHANGE,
     BEAT,
     BEGIN_HISTORY,
     BEGINNING,
     DROP_CLIENTS,
+    GROW,
     HEARD,
+    KEEP_CATALOGUE,
     LOG,
     LOG_ENDS,
     LOG_SIZES,
@@ -42,6 +46,7 @@ from job_host.service.terms.calls import (
     WorkLog,
 )
 from job_host.service.terms.sessions import Silent
+from job_host.service.versions.changes import Change, Growth, change_in
 
 log = logging.getLogger(__name__)
 
@@ -195,6 +200,27 @@ class PostgresStore:
         rows = await self._fetch("select line from job_host_catalogue order by epoch desc limit 1")
         return rows[0]["line"].encode() if rows else None
 
+    async def job_changes(self) -> list[Change]:
+        """All changes of jobs with their files, the oldest first."""
+        rows = await self._fetch("select change, file, settings from job_host_job_change order by number")
+        return [change_of(json.loads(row["change"]), row["file"], row["settings"]) for row in rows]
+
+    async def grow(self, epoch: int, growth: Growth) -> int | None:
+        """Keeps changes of jobs, and the catalogue that has them, under a new epoch. Returns it, if the earlier one stands."""
+        grown = await self._or_drop(self._grow(epoch, growth))
+        return int(grown) if grown is not None else None
+
+    async def _grow(self, epoch: int, growth: Growth) -> Any:
+        async with self._commits.transaction():
+            grown = await self._commits.fetchval(GROW, epoch)
+            if grown is None:
+                return None
+            if growth.catalogue is not None:
+                await self._commits.execute(KEEP_CATALOGUE, grown, growth.catalogue.decode())
+            for change in growth.changes:
+                await self._commits.execute(ADD_CHANGE, compact(change.members()).decode(), *data_of(change.file))
+        return grown
+
     async def operations_after(self, number: int, epoch: int, most: int) -> list[Record]:
         """The next operations, no more than so many, of this epoch and those before: a later one may know more jobs."""
         rows = await self._fetch(
@@ -266,8 +292,7 @@ class PostgresStore:
             if epoch is not None:
                 await self._know_history()
             if epoch is not None and catalogue is not None:
-                statement = "insert into job_host_catalogue (epoch, line) values ($1, $2)"
-                await self._commits.execute(statement, epoch, catalogue.decode())
+                await self._commits.execute(KEEP_CATALOGUE, epoch, catalogue.decode())
         return epoch
 
     async def _know_history(self) -> None:
@@ -321,6 +346,19 @@ class PostgresStore:
         replies = [reply.decode() for reply in once.values()]
         async with self._reading() as reads:
             await reads.execute(statement, EVERYBODY_SESSION, list(once), replies)
+
+
+def data_of(file: JobFile | None) -> tuple[bytes | None, bytes | None]:
+    """The data of a job's file, and of its settings."""
+    if file is None:
+        return None, None
+    return file.data, None if file.settings is None else file.settings.data
+
+
+def change_of(told: dict[str, Any], data: bytes | None, held: bytes | None) -> Change:
+    settings = None if held is None else SettingsFile(told["settings"], bytes(held))
+    file = None if data is None else JobFile(told["file"], told["suffix"], bytes(data), settings)
+    return change_in(told, file)
 
 
 def words_of(wanted: LogPage) -> tuple[Any, ...]:

@@ -8,6 +8,7 @@ import asyncpg
 
 from job_host.service.stores.postgres_schema import (
     ADD_HISTORY,
+    ADD_JOB_CHANGES,
     HAS_HISTORY,
     HAS_VERSION,
     KEEP_VERSION,
@@ -29,8 +30,12 @@ async def make_tables(connection: asyncpg.Connection) -> None:
         await connection.execute(ADD_HISTORY)
 
 
+async def add_job_changes(connection: asyncpg.Connection) -> None:
+    await connection.execute(ADD_JOB_CHANGES)
+
+
 # What brings each version to the next one. They are never changed: a later version has one of its own.
-MIGRATIONS: list[Migration] = [make_tables]
+MIGRATIONS: list[Migration] = [make_tables, add_job_changes]
 
 
 async def version_of(connection: asyncpg.Connection) -> int:

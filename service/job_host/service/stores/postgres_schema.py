@@ -65,6 +65,16 @@ alter table job_host_leader
 # The table that was added last: if it is there, all are.
 NEWEST_TABLE = "job_host_client_heard"
 
+# The second version. A change of a job is never changed itself.
+ADD_JOB_CHANGES = """
+create table if not exists job_host_job_change (
+    number bigint primary key,
+    change text not null,
+    file bytea,
+    settings bytea
+)
+"""
+
 # A number that only this package locks, so that two instances don't make the tables at once.
 SCHEMA_LOCK = 7_402_118_431
 
@@ -126,6 +136,14 @@ NOTE_FIRST = "update job_host_leader set first_operation = $1"
 BEGIN_HISTORY = """
 with request as (delete from job_host_request), work_log as (delete from job_host_work_log)
 update job_host_leader set history = gen_random_uuid(), first_operation = $1
+"""
+
+# Another epoch of the same leader: the others look at the jobs again.
+GROW = "update job_host_leader set epoch = epoch + 1, beats = beats + 1 where epoch = $1 returning epoch"
+KEEP_CATALOGUE = "insert into job_host_catalogue (epoch, line) values ($1, $2)"
+ADD_CHANGE = """
+insert into job_host_job_change (number, change, file, settings)
+select coalesce(max(number), 0) + 1, $1::text, $2::bytea, $3::bytea from job_host_job_change
 """
 
 RESIGN = "update job_host_leader set beats = beats + 1, holder = '' where epoch = $1"

@@ -9,6 +9,7 @@ from typing import Any
 
 from job_host.protocol.lines import Members, is_accepted, read
 from job_host.service.pages import Page
+from job_host.service.versions.changes import Growth
 
 SERVICE = ""
 SERVICE_SESSION = 1
@@ -31,7 +32,8 @@ class Call:
     `resolve` gives members that a query tells. With `wait`, a claim that is answered Nothing is made again until so many
     seconds are over, or until the client is gone. While its machine is `is_unheard`, no work is given to it. That answer isn't
     kept: a claim by the same key is a new one. With `is_once` the key is for all clients, as long as the job instance that the
-    call made is there. A refusal isn't kept then.
+    call made is there. A refusal isn't kept then. A call with `make` is no line of batchctl's: that makes it, and gives its
+    reply.
     """
 
     client: str
@@ -45,6 +47,7 @@ class Call:
     is_gone: Callable[[], bool] = nobody_left
     is_unheard: Callable[[], bool] = everybody_heard
     is_once: bool = False
+    make: Callable[[Call], Awaitable[bytes]] | None = None
 
 
 @dataclass(frozen=True)
@@ -128,6 +131,7 @@ class Item:
     answers: tuple[bytes, ...] = ()
     is_ready: bool = False
     log: WorkLog | None = None
+    growth: Growth | None = None
     heard: asyncio.Future[bytes] = field(default_factory=lambda: asyncio.get_running_loop().create_future())
     done: asyncio.Future[Kept] = field(default_factory=lambda: asyncio.get_running_loop().create_future())
 

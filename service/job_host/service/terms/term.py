@@ -6,7 +6,7 @@ import asyncio
 import time
 from abc import ABC, abstractmethod
 from collections import deque
-from collections.abc import Callable, Sequence
+from collections.abc import Awaitable, Callable, Sequence
 from contextlib import suppress
 from dataclasses import dataclass, replace
 
@@ -20,6 +20,7 @@ from job_host.service.terms.follow_ups import follow_ups
 from job_host.service.terms.moments import Moments
 from job_host.service.terms.sessions import Sessions
 from job_host.service.terms.workers import Workers
+from job_host.service.versions.changes import Growth
 
 # What a worker reports of its work items.
 REPORTS = ("checkpoint", "finish")
@@ -55,6 +56,8 @@ class Term(ABC):
         self._wake = asyncio.Event()
         self._under_way: dict[tuple[str | None, str], tuple[bytes, asyncio.Task[Kept]]] = {}
         self._readers: list[tuple[int, asyncio.Future[None]]] = []
+        # What is kept of a client's request key beside the replies: a change of a job.
+        self.find_change: Callable[[str, str], KeptRequest | None] = lambda client, key: None
         engine.may_give_work = self.desk.wake
 
     @abstractmethod
@@ -109,6 +112,8 @@ class Term(ABC):
             if found is not None and call.is_once and await self._is_purged(found.kept):
                 await self.forget(key, found.kept)
                 found = None
+            if found is None and not call.is_once:
+                found = self.find_change(call.client, key)
             if found is None:
                 return await self._perform(call)
             if found.fingerprint != call.fingerprint:
@@ -121,6 +126,8 @@ class Term(ABC):
         return refusal_of(read(answers.replies[0])) is not None
 
     async def _perform(self, call: Call) -> Kept:
+        if call.make is not None:
+            return await self._make(call, call.make)
         if call.resolve is not None:
             call = replace(call, members=await call.resolve(), resolve=None)
         if call.do != "claim":
@@ -130,6 +137,18 @@ class Term(ABC):
         kept = await (self.desk.claim(call) if call.wait > 0 else self._made(call))
         self.workers.note_claim(call.client)
         return kept
+
+    async def _make(self, call: Call, make: Callable[[Call], Awaitable[bytes]]) -> Kept:
+        """Makes a call that is no line of batchctl's, and keeps its reply beside its key."""
+        self.check(call)
+        reply = await make(call)
+        if self.failure is not None:
+            raise self.failure
+        session = self.sessions.number(call.client)
+        item = Item(call, session, moment=self.moments.last, reply=reply, seen=self.engine.entered)
+        self._queue.append(item)
+        self._make_ready(item)
+        return await item.done
 
     async def _made(self, call: Call) -> Kept:
         return await (await self.begin(call)).done
@@ -220,6 +239,15 @@ class Term(ABC):
         if self.failure is not None:
             raise self.failure
         item = Item(None, 0, seen=self.engine.entered, log=log)
+        self._queue.append(item)
+        self._make_ready(item)
+        await item.done
+
+    async def keep_growth(self, growth: Growth) -> None:
+        """Returns after changes of jobs are kept."""
+        if self.failure is not None:
+            raise self.failure
+        item = Item(None, 0, seen=self.engine.entered, growth=growth)
         self._queue.append(item)
         self._make_ready(item)
         await item.done

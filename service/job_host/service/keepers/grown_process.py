@@ -1,0 +1,79 @@
+"""A co-process with a catalogue that has grown: it is brought on beside the engine's, and then takes its place."""
+
+from __future__ import annotations
+
+from collections.abc import Sequence
+
+from job_host.protocol.lines import query
+from job_host.service.history.coprocess import CoProcess, CoProcessEnded
+from job_host.service.history.engine import Engine, Record, ReplayDiffers
+from job_host.service.stores.postgres import PostgresStore
+
+CHUNK = 2_000
+
+
+class GrownProcess:
+    """Knows the first operations of the engine, up to `number`. The table has those that are kept."""
+
+    def __init__(self, process: CoProcess, store: PostgresStore, engine: Engine, epoch: int) -> None:
+        self._process = process
+        self._store = store
+        self._engine = engine
+        self._epoch = epoch
+        self._number = 0
+
+    async def bring_on(self) -> None:
+        """Replays what the table has of the engine's operations. Calls go on meanwhile."""
+        while records := await self._kept():
+            await self._replay(records)
+
+    async def _kept(self) -> list[Record]:
+        records = await self._store.operations_after(self._number, self._epoch, CHUNK)
+        return [one for one in records if one.number <= self._engine.entered]
+
+    async def _replay(self, records: Sequence[Record]) -> None:
+        replies = await self._process.ask_all([one.line for one in records])
+        for record, reply in zip(records, replies, strict=True):
+            if record.reply != reply:
+                raise ReplayDiffers(record, reply)
+        self._number = records[-1].number
+
+    async def take_place(self, epoch: int) -> None:
+        """Takes the place of the engine's co-process, after all that this was handed is answered. Lines wait meanwhile.
+
+        What the engine has entered is of this epoch or of those before. A leader may have kept some under the one that began
+        with the catalogue.
+        """
+        engine, before, self._epoch = self._engine, self._engine.process, epoch
+        async with engine.turn:
+            answered = before.ask_all([query("status_counts")])
+            before.hold()
+            try:
+                await answered
+                while self._number < engine.entered:
+                    await self._replay(await self._next())
+                if self._process.has_ended:
+                    raise CoProcessEnded(f"batchctl ended with status {self._process.status}: {self._process.errors}")
+            except BaseException:
+                before.give_up()
+                raise
+            engine.process = self._process
+            before.go_on_in(self._process)
+        await before.close()
+
+    async def _next(self) -> list[Record]:
+        """The next operations. Raises CoProcessEnded if neither the engine nor the table has them."""
+        records = self._recent() or await self._kept()
+        if not records:
+            raise CoProcessEnded(f"operation {self._number + 1} is neither at hand nor kept")
+        return records
+
+    def _recent(self) -> list[Record]:
+        """The next operations, if the engine still has them."""
+        behind = [one for one in self._engine.recent if one.number > self._number]
+        return behind if behind and behind[0].number == self._number + 1 else []
+
+    async def close(self) -> None:
+        """Ends it, unless it has taken the other one's place."""
+        if self._engine.process is not self._process:
+            await self._process.close()

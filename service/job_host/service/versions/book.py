@@ -1,0 +1,117 @@
+"""The jobs of a history with all their versions, and the changes that made them, as this instance knows them."""
+
+from __future__ import annotations
+
+import json
+from collections.abc import Callable, Mapping, Sequence
+from typing import Any
+
+from job_host.catalogue.jobs import ForWorkers, JobFile, jobs_of
+from job_host.catalogue.structure import MOST_JOBS
+from job_host.catalogue.text import MOST_LINE_BYTES
+from job_host.catalogue.names import VERSIONED_NAMES, id_of
+from job_host.protocol.lines import compact
+from job_host.service.problems import Problem
+from job_host.service.versions.changes import APPLY, WITHDRAW, Change
+
+
+class FileNotKept(Exception):
+    """The file of a version isn't kept, so that nobody knows its properties, and what workers do for its steps."""
+
+
+class JobBook:
+    """Versions by their ids in the catalogue's order. `file_of` gives the kept file of one, `read` what it has for workers."""
+
+    def __init__(self, file_of: Callable[[Change], JobFile | None], read: Callable[[JobFile], ForWorkers]) -> None:
+        self._file_of = file_of
+        self._read = read
+        self._jobs: dict[str, Mapping[str, Any]] = {}
+        self._applied: dict[str, Change] = {}
+        self._for_workers: dict[str, ForWorkers] = {}
+        self._withdrawn: set[str] = set()
+        self._newest: dict[str, int] = {}
+        self.changes: list[Change] = []
+        self.line = compact({"jobs": []})
+
+    def enter(self, changes: Sequence[Change]) -> None:
+        """Notes changes that are kept."""
+        for change in changes:
+            self.changes.append(change)
+            if change.action == WITHDRAW:
+                self._withdrawn.add(change.name)
+                continue
+            self._withdrawn.discard(change.name)
+            if change.action == APPLY and change.job is not None:
+                self._applied[change.id] = change
+                self._jobs.setdefault(change.id, change.job)
+                self._newest[change.name] = max(self.newest(change.name), change.version)
+        self.line = self.with_changes(())
+
+    def take_over(self, catalogue: bytes) -> None:
+        """The catalogue that a history has: its jobs come first, as they are. A change that made another one isn't theirs."""
+        kept = jobs_of(catalogue)
+        self._applied = {job: one for job, one in self._applied.items() if job not in kept or one.job == kept[job]}
+        self._for_workers.clear()
+        self._jobs = {**kept, **{job: one for job, one in self._jobs.items() if job not in kept}}
+        for name, versions in VERSIONED_NAMES.versions_in(catalogue).items():
+            self._newest[name] = max(self.newest(name), VERSIONED_NAMES.of(versions[-1]).version)
+        self.line = self.with_changes(())
+
+    def with_changes(self, changes: Sequence[Change]) -> bytes:
+        """The catalogue's line, with the versions of these changes. Raises a problem if it has no room for them."""
+        added = {one.id: one.job for one in changes if one.job is not None and one.id not in self._jobs}
+        line = compact({"jobs": [*self._jobs.values(), *added.values()]})
+        if added and len(self._jobs) + len(added) > MOST_JOBS:
+            raise catalogue_full(f"a history has at most {MOST_JOBS} jobs, and each version is one")
+        if added and len(line) > MOST_LINE_BYTES:
+            raise catalogue_full(f"the catalogue of a history has at most {MOST_LINE_BYTES} bytes, with all versions")
+        return line
+
+    def newest(self, name: str) -> int:
+        """The newest version of a job, and 0 if there is none."""
+        return self._newest.get(name, 0)
+
+    def names(self) -> list[str]:
+        return list(self._newest)
+
+    def job(self, name: str, version: int) -> Mapping[str, Any]:
+        return self._jobs[id_of(name, version)]
+
+    def is_withdrawn(self, name: str) -> bool:
+        return name in self._withdrawn
+
+    def is_applied(self, job: str) -> bool:
+        """Whether somebody's change that made this version is kept, with its file."""
+        return job in self._applied
+
+    def changes_of(self, name: str) -> list[Change]:
+        """The changes of a job, the newest first."""
+        return [one for one in reversed(self.changes) if one.name == name]
+
+    def by_key(self, client: str, key: str) -> Change | None:
+        """The change that a client asked for by a request key."""
+        found = (one for one in reversed(self.changes) if one.by is not None and one.client == client and one.by.key == key)
+        return next(found, None)
+
+    def id_to_start(self, name: str) -> str:
+        """The newest version of a job. Raises a problem if it is withdrawn, or if people give a version that name."""
+        if name in self._withdrawn:
+            told = f"the job {json.dumps(name)} is withdrawn: what it has can be restarted, and nothing is started"
+            raise Problem("JobWithdrawn", 409, told)
+        if name not in self._newest and VERSIONED_NAMES.of(name).version > 1:
+            raise Problem("JobStartException", 404, "the newest version of a job is started, by the job's name")
+        return id_of(name, self.newest(name) or 1)
+
+    def for_workers(self, job: str) -> ForWorkers:
+        """What a version has for workers, by the file that is kept with it. Raises FileNotKept."""
+        if job not in self._for_workers:
+            change = self._applied.get(job)
+            file = None if change is None else change.file or self._file_of(change)
+            if file is None:
+                raise FileNotKept(f"the file of {job!r} isn't kept, so its properties aren't known")
+            self._for_workers[job] = self._read(file)
+        return self._for_workers[job]
+
+
+def catalogue_full(told: str) -> Problem:
+    return Problem("CatalogueFull", 409, f"{told}: begin a new history")

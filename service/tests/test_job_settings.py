@@ -1,0 +1,116 @@
+"""`NAME.settings.json` beside `NAME.xml`: the time of each step, or each fault of the file is named."""
+
+from __future__ import annotations
+
+import json
+import os
+from pathlib import Path
+
+import pytest
+
+from job_host.catalogue.folder import read_folder
+from job_host.commands.command_line import main
+
+JSL = """<job id="a" xmlns="https://jakarta.ee/xml/ns/jakartaee" version="2.0">
+<step id="load" next="both"><batchlet ref="b"/></step>
+<split id="both" next="day"><flow id="f"><step id="copy"><batchlet ref="b"/></step></flow></split>
+<decision id="day" ref="day"><end on="*"/></decision>
+</job>
+"""
+
+
+@pytest.fixture
+def jobs(tmp_path: Path) -> Path:
+    (tmp_path / "a.xml").write_text(JSL)
+    return tmp_path
+
+
+def refused(jobs: Path, settings: str | bytes) -> list[str]:
+    data = settings.encode() if isinstance(settings, str) else settings
+    (jobs / "a.settings.json").write_bytes(data)
+    return [line.removeprefix(f"{jobs}/") for line in read_folder(jobs, ()).refused]
+
+
+def test_each_step_has_its_time(jobs: Path) -> None:
+    assert refused(jobs, json.dumps({"steps": {"load": {"timeout": 1}, "copy": {"timeout": 4_294_967_295}}})) == []
+    read = read_folder(jobs, ())
+    assert read.for_workers["a"].steps == {"load": {"timeout": 1}, "copy": {"timeout": 4_294_967_295}}
+    # It is no job file: the folder has one job.
+    assert [job["id"] for job in json.loads(read.line)["jobs"]] == ["a"]
+    for nothing in ("{}", '{"steps": {}}', '{"steps": {"load": {}}}'):
+        assert refused(jobs, nothing) == [] and read_folder(jobs, ()).for_workers["a"].steps == {}
+
+
+IN_JOB, IN_LOAD = 'settings in job "a"', 'settings in job "a", step "load" (number 0)'
+SECONDS = 'expected a whole number of seconds from 1 to 4294967295 as "timeout"'
+FAULTS = [
+    ("", "1:1: NotJson: expected a value, found the end of the file"),
+    (b'{"\xff": 1}', "1:3: NotJson: expected UTF-8, found the byte 0xff"),
+    ("[]", f"1:1: {IN_JOB}: expected an object, the settings, found `[]`"),
+    ('{"step": {}}', f'1:2: {IN_JOB}: expected "steps" in the settings, found "step"; did you mean `steps`?'),
+    ('{"steps": []}', f"1:11: {IN_JOB}: expected an object, steps, found `[]`"),
+    ('{"steps": {"laod": {}}}', f'1:12: {IN_JOB}: expected the id of a step, found "laod"; did you mean `load`?'),
+    ('{"steps": {"both": {}}}', f'1:12: {IN_JOB}: expected the id of a step, found "both"'),
+    ('{"steps": {"day": {}}}', f'1:12: {IN_JOB}: expected the id of a step, found "day"'),
+    ('{"steps": {"load": 5}}', f"1:20: {IN_LOAD}: expected an object, the step, found `5`"),
+    (
+        '{"steps": {"load": {"time": 5}}}',
+        f'1:21: {IN_LOAD}: expected "timeout" in the step, found "time"; did you mean `timeout`?',
+    ),
+    *(
+        ('{"steps": {"load": {"timeout": %s}}}' % wrong, f"1:32: {IN_LOAD}: {SECONDS}, found `{wrong}`")
+        for wrong in ("0", "-1", "1.5", '"5"', "true", "null", "4294967296", "{}")
+    ),
+]
+
+
+@pytest.mark.parametrize(("text", "fault"), FAULTS)
+def test_a_fault_has_its_place(jobs: Path, text: str | bytes, fault: str) -> None:
+    assert refused(jobs, text) == [f"a.settings.json:{fault}"]
+
+
+def test_all_faults_are_told(jobs: Path, capfd: pytest.CaptureFixture[str]) -> None:
+    text = '{"steps": {"load": {"timeout": 0},\n "cpoy": {"timeout": 1}}, "job": 1}'
+    assert [line.split(":")[1] for line in refused(jobs, text)] == ["1", "2", "2"]
+    assert main(["serve", "--jobs", str(jobs)]) == 1
+    assert len(capfd.readouterr().err.splitlines()) == 4
+
+
+def test_settings_without_their_job_are_refused(jobs: Path) -> None:
+    (jobs / "b.json").write_text('{"id": "b", "elements": []}')
+    for name in ("b", "c"):
+        (jobs / f"{name}.settings.json").write_text("{}")
+    told = "there is no job file %s.xml, whose settings these are"
+    assert read_folder(jobs, ()).refused == [f"{jobs}/{name}.settings.json: {told % name}" for name in ("b", "c")]
+
+
+def test_settings_are_of_the_job_in_jsl(jobs: Path) -> None:
+    """A job in JSON of the same name has none."""
+    (jobs / "a.json").write_text('{"id": "b", "elements": [{"kind": "step", "id": "load", "batchlet": {"ref": "b"}}]}')
+    assert refused(jobs, '{"steps": {"load": {"timeout": 1}, "copy": {"timeout": 2}}}') == []
+    steps = {job: read.steps for job, read in read_folder(jobs, ()).for_workers.items()}
+    assert steps == {"a": {"load": {"timeout": 1}, "copy": {"timeout": 2}}, "b": {}}
+
+
+def test_settings_that_cant_be_read_are_refused(jobs: Path) -> None:
+    """Neither a pipe nor a folder is waited for."""
+    path = jobs / "a.settings.json"
+    path.mkdir()
+    assert read_folder(jobs, ()).refused == [f"{path}: Is a directory"]
+    path.rmdir()
+    os.mkfifo(path)
+    assert read_folder(jobs, ()).refused == [f"{path}: this is no file"]
+    path.unlink()
+    path.symlink_to(jobs / "gone")
+    assert read_folder(jobs, ()).refused == [f"{path}: No such file or directory"]
+
+
+def test_of_a_job_that_cant_be_read_the_job_is_told_alone(jobs: Path) -> None:
+    (jobs / "a.xml").write_text("<job")
+    assert refused(jobs, '{"steps": {"load": 1}}') == ["a.xml:1:1: JSL: unclosed token"]
+
+
+def test_hidden_settings_are_not_read(jobs: Path) -> None:
+    (jobs / ".a.settings.json").write_text("no settings")
+    (jobs / "a.settings.json~").write_text("no settings")
+    assert read_folder(jobs, ()).refused == []
