@@ -13,6 +13,7 @@ from selenium.webdriver.chrome.service import Service as Driver
 from selenium.webdriver.common.by import By
 
 WAIT_SECONDS = 30.0
+LONGEST_PAUSE = 0.25
 # What a look meets while a page is drawn anew.
 NOT_YET = (NoSuchElementException, StaleElementReferenceException, ElementNotInteractableException)
 WORDS = [
@@ -38,8 +39,8 @@ class Browser:
         self.driver.get(url)
 
     def until(self, look: Callable[[], Any], seconds: float = WAIT_SECONDS) -> Any:
-        """What a look sees, after it sees something."""
-        deadline = time.monotonic() + seconds
+        """What a look sees, after it sees something. It looks less and less often: each look takes the browser's time."""
+        deadline, pause = time.monotonic() + seconds, 0.05
         while True:
             try:
                 seen = look()
@@ -49,7 +50,8 @@ class Browser:
                 pass
             if time.monotonic() > deadline:
                 raise TimeoutError(f"not seen within {seconds:g} seconds: {self.text()[-2000:]}")
-            time.sleep(0.05)
+            time.sleep(pause)
+            pause = min(LONGEST_PAUSE, 1.3 * pause)
 
     def find(self, selector: str) -> Any:
         return self.until(lambda: self.driver.find_element(By.CSS_SELECTOR, selector))
@@ -83,6 +85,12 @@ class Browser:
 
     def text(self, selector: str = "body") -> str:
         return str(self.driver.execute_script("return document.querySelector(arguments[0])?.innerText ?? ''", selector))
+
+    def texts(self, selector: str) -> list[str]:
+        """What each of these parts shows, by one request to the browser."""
+        return list(
+            self.run("return [...document.querySelectorAll(arguments[0])].map((one) => one.innerText.trim())", selector)
+        )
 
     def run(self, script: str, *arguments: Any) -> Any:
         return self.driver.execute_script(script, *arguments)

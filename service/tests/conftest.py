@@ -42,6 +42,18 @@ DECIDING = {"id": "deciding", "elements": [{"kind": "decision", "id": "day", "re
 JOBS = [NIGHTLY, SHORT, WIDE, CHUNKY, DECIDING]
 
 
+@pytest.fixture(scope="session", autouse=True)
+def bytecode(tmp_path_factory: pytest.TempPathFactory) -> Iterator[None]:
+    """Services, workers and commands in processes of their own find their modules compiled, and write nothing beside these.
+
+    Else each of them compiles all that it loads, where Python is told to keep no bytecode.
+    """
+    with pytest.MonkeyPatch.context() as patched:
+        patched.setenv("PYTHONPYCACHEPREFIX", str(tmp_path_factory.mktemp("bytecode")))
+        patched.delenv("PYTHONDONTWRITEBYTECODE", raising=False)
+        yield
+
+
 @pytest.fixture(scope="session")
 def postgres() -> Iterator[PostgresServer]:
     server = PostgresServer.make()

@@ -25,6 +25,8 @@ from job_host.service.settings import ServeSettings
 
 READY_SECONDS = 30.0
 ANSWER_SECONDS = 60.0
+# Between looks that cost next to nothing, at what may soon be another one.
+SHORT_PAUSE = 0.02
 COMMAND = Path(__file__).resolve().parents[1] / "jobhost"
 
 
@@ -95,13 +97,14 @@ class Caller:
         return str((await self.ask("GET", f"/batch/jobexecutions/{execution}")).told["batchStatus"])
 
 
-async def until(condition: Any, seconds: float = READY_SECONDS) -> None:
-    """Returns after the condition holds."""
-    deadline = time.monotonic() + seconds
+async def until(condition: Any, seconds: float = READY_SECONDS, longest: float = 0.1) -> None:
+    """Returns after the condition holds. It looks less and less often, at pauses up to the longest: a look may be a request."""
+    deadline, pause = time.monotonic() + seconds, 0.02
     while not await condition():
         if time.monotonic() > deadline:
             raise TimeoutError
-        await asyncio.sleep(0.02)
+        await asyncio.sleep(pause)
+        pause = min(longest, 1.2 * pause)
 
 
 class Instance:
@@ -115,7 +118,7 @@ class Instance:
     async def start(self) -> None:
         await self.service.listen()
         self.url = f"http://127.0.0.1:{self.service.port}"
-        self._keeping = asyncio.get_running_loop().create_task(self.service.keeper.run())
+        self._keeping = asyncio.get_running_loop().create_task(self.service.keep())
 
     async def until_role(self, *roles: str) -> None:
         async def has_role() -> bool:
@@ -123,7 +126,7 @@ class Instance:
                 self._keeping.result()
             return self.service.keeper.role in roles
 
-        await until(has_role)
+        await until(has_role, longest=SHORT_PAUSE)
 
     async def until_claims_wait(self, count: int, seconds: float = READY_SECONDS) -> None:
         """Returns after so many claims wait for work."""
@@ -132,7 +135,7 @@ class Instance:
             term = self.service.keeper.term
             return term is not None and term.desk.waiting == count
 
-        await until(do_wait, seconds)
+        await until(do_wait, seconds, SHORT_PAUSE)
 
     async def ended(self) -> None:
         """Returns, or raises, after the keeper has ended."""

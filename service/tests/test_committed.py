@@ -15,6 +15,7 @@ from job_host.service.keepers.embedded_term import EmbeddedTerm
 from job_host.service.problems import unavailable
 from job_host.service.server import Service
 from job_host.service.settings import HistoryBounds, ServeSettings
+from job_host.service.terms.calls import SERVICE_SESSION
 
 
 async def fail(*given: Any) -> Any:
@@ -24,9 +25,9 @@ async def fail(*given: Any) -> Any:
 def lead(service: Service, entered: int, committed: int) -> None:
     """Lets a service lead that has so many operations, of which so many are kept."""
     keeper = service.keeper
-    desk = SimpleNamespace(waiting=0)
+    desk, actions = SimpleNamespace(waiting=0), SimpleNamespace(purges_by={SERVICE_SESSION: 1})
     keeper.role, keeper.engine = "leader", cast(
-        Any, SimpleNamespace(entered=entered, held={1: None}, process=SimpleNamespace(silence=0.0))
+        Any, SimpleNamespace(entered=entered, held={1: None}, process=SimpleNamespace(silence=0.0), actions=actions)
     )
     keeper.term = cast(Any, SimpleNamespace(committed=committed, desk=desk, ask=fail))
 
@@ -51,7 +52,7 @@ async def test_operations_that_are_not_kept_are_not_told(idle: Callable[..., Ser
         assert '"operations": 5,' in await told_first(service)
         metrics = (await caller.ask("GET", "/metrics")).told
         assert "jobhost_operations 5.0\n" in metrics and "jobhost_history_full_ratio 5e-06\n" in metrics
-        assert "jobhost_work_items_held 0.0\n" in metrics
+        assert "jobhost_work_items_held 0.0\n" in metrics and "jobhost_purged_job_instances 0.0\n" in metrics
         assert (await caller.ask("GET", "/batch/jobs?atLeast=8")).told["operations"] == 5
 
 

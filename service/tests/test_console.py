@@ -89,7 +89,7 @@ def test_what_is_open_was_not_restarted_since(browser: Browser, service: Process
             await caller.finish(work, "FAILED")
 
     def rows(section: str) -> list[str]:
-        return [row.text for row in browser.all(f"section[data-key='{section}'] tbody th")]
+        return browser.texts(f"section[data-key='{section}'] tbody th")
 
     asyncio.run(fail_both())
     browser.open(service.url)
@@ -322,7 +322,7 @@ def test_lists_are_searched_narrowed_and_paged_by_clicks(browser: Browser, servi
     browser.click_text("Newer")
     browser.see("1 to 50 of 60")
     browser.click(".tile.status-STOPPED")
-    browser.until(lambda: [row.text for row in browser.all("tbody th a")] == ["7"])
+    browser.until(lambda: browser.texts("tbody th a") == ["7"])
     browser.click(".tile:not([class*=status])")
     browser.see("1 to 50 of 60")
     browser.find("#search").send_keys("night=n1")
@@ -340,8 +340,8 @@ def test_attempts_of_a_job_instance_are_paged_by_clicks(browser: Browser, servic
     """Also what is said of all of them is true: which is the newest, and whether a step was run."""
 
     def attempts() -> list[str]:
-        rows = browser.all("section[data-key='Earlier and later job executions'] tbody th")
-        return [row.text.removesuffix(" (this one)") for row in rows]
+        rows = browser.texts("section[data-key='Earlier and later job executions'] tbody th")
+        return [row.removesuffix(" (this one)") for row in rows]
 
     async def restart_often() -> None:
         caller = Caller(service.url)

@@ -58,7 +58,7 @@ def test_many_are_restarted_and_stopped_by_clicks(browser: Browser, service: Pro
         browser.click("[data-action=choose-all]")
 
     def outcomes() -> list[str]:
-        return [row.text for row in browser.all("dialog .many li")]
+        return browser.texts("dialog .many li")
 
     asyncio.run(make())
     browser.open(service.url + "/#/executions")

@@ -46,7 +46,7 @@ def test_versions_are_shown_beside_names(browser: Browser, service: Process) -> 
     browser.see("1 nightly \u2715 FAILED", "section[data-key=Open]")
 
     def jobs() -> list[str]:
-        return [row.text for row in browser.all("section[data-key='Jobs of the catalogue'] tbody th")]
+        return browser.texts("section[data-key='Jobs of the catalogue'] tbody th")
 
     assert sorted(jobs()) == ["nightly", "other"]
     # A change is no operation, and an open page shows it all the same.
@@ -77,5 +77,5 @@ def test_a_withdrawn_job_is_not_to_be_started(browser: Browser, service: Process
     browser.click("dialog [data-confirm=Start]")
     browser.see("It is withdrawn: what it has can be restarted, and nothing is started.", "dialog")
     browser.click("dialog [data-cancel]")
-    browser.until(lambda: [row.text for row in browser.all("section[data-key='Jobs of the catalogue'] tbody th")] == ["other"])
+    browser.until(lambda: browser.texts("section[data-key='Jobs of the catalogue'] tbody th") == ["other"])
     assert ask(service.url, "GET", "/batch/jobinstances").told == []

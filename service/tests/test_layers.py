@@ -17,16 +17,17 @@ MAY_IMPORT: Mapping[str, Set[str]] = {
     "": set(),
     "protocol": set(),
     "catalogue": {"protocol"},
+    "archive": {"protocol"},
     "worker": {"protocol"},
-    "service": {"protocol", "catalogue"},
-    "commands": {"protocol", "catalogue", "worker", "service"},
+    "service": {"protocol", "catalogue", "archive"},
+    "commands": {"protocol", "catalogue", "archive", "worker", "service"},
     "__main__": {"commands"},
 }
 # The folders and modules of the part `service`. Each may import what stands before it.
 ORDER_OF_SERVICE = (
     *("pages", "problems", "settings"),
     *("history", "versions", "terms", "stores", "keepers", "http", "routes"),
-    *("metrics", "server"),
+    *("retention", "metrics", "server"),
 )
 
 Graph = Mapping[str, Set[str]]

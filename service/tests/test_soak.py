@@ -17,8 +17,9 @@ from job_host.catalogue.jobs import read_file
 
 NOT_SWALLOWED = black_hole.why_not_swallowed()
 pytestmark = pytest.mark.skipif(NOT_SWALLOWED is not None, reason=str(NOT_SWALLOWED))
-EMBEDDED = ["worker", "black-hole", "store", "grandchild", "silent", "folder", "hung-batchctl", "late"]
-POSTGRES = ["absent", "connections", "pipelining", "hung-postgres", "batchctl", "cut-off", "postgres", "worker"]
+# A soak of its own makes all kinds. Here stand those that leave notes or take a store or a connection away.
+EMBEDDED = ["black-hole", "store", "grandchild", "folder", "hung-batchctl", "late"]
+POSTGRES = ["absent", "hung-postgres", "batchctl", "cut-off", "postgres"]
 # Enough for calls in hand at each fault. More take the processor from the other tests.
 CLIENTS, WORKERS = 3, 2
 

@@ -32,11 +32,24 @@ def add_serve(subcommands: Subcommands[argparse.ArgumentParser]) -> None:
     batchctl = "the program batchctl (default: JOBHOST_BATCHCTL, else the path's, else this clone's)"
     add("--batchctl", metavar="PROGRAM", help=batchctl)
     add_listening(parser)
+    add_retention(parser)
     lease = "a work item is lost after so long without a sign of its worker (default: %(default)g)"
     add("--lease", type=float, default=30.0, metavar="SECONDS", help=lease)
     takeover = "over PostgreSQL, this instance takes over after so long without a sign of the leader (default: %(default)g)"
     add("--takeover-after", type=float, default=5.0, metavar="SECONDS", help=takeover)
     parser.set_defaults(run=run_serve)
+
+
+def add_retention(parser: argparse.ArgumentParser) -> None:
+    """When job instances are purged, and where they are kept then."""
+    from job_host.commands.options import positive
+
+    over = "purges a job instance so many days after its end, unless it may be restarted (default: none is purged)"
+    parser.add_argument("--keep-days", type=positive, metavar="N", help=over)
+    failed = "purges a job instance that may be restarted so many days after it was FAILED or STOPPED (default: none is purged)"
+    parser.add_argument("--keep-failed-days", type=positive, metavar="N", help=failed)
+    archive = "a folder to which all that is told of a job instance is written before its purge (default: none)"
+    parser.add_argument("--archive", type=Path, metavar="FOLDER", help=archive)
 
 
 def add_jobs(parser: argparse.ArgumentParser) -> None:
@@ -109,6 +122,9 @@ def serve_settings(given: argparse.Namespace) -> ServeSettings:
         certificate_key=given.certificate_key,
         lease=given.lease,
         takeover_after=given.takeover_after,
+        keep_days=given.keep_days,
+        keep_failed_days=given.keep_failed_days,
+        archive=given.archive,
     )
 
 
@@ -172,9 +188,15 @@ def add_catalogue(subcommands: Subcommands[argparse.ArgumentParser]) -> None:
     catalogue.add_catalogue(subcommands)
 
 
+def add_archive(subcommands: Subcommands[argparse.ArgumentParser]) -> None:
+    from job_host.commands import archive
+
+    archive.add_archive(subcommands)
+
+
 # What adds one command. All others are the client's.
-ALONE = {"serve": add_serve, "worker": add_worker, "catalogue": add_catalogue}
-ALL = (add_serve, add_worker, add_changes, add_lists, add_catalogue)
+ALONE = {"serve": add_serve, "worker": add_worker, "catalogue": add_catalogue, "archive": add_archive}
+ALL = (add_serve, add_worker, add_changes, add_lists, add_catalogue, add_archive)
 
 
 def make_parser(command: str | None = None) -> argparse.ArgumentParser:

@@ -32,6 +32,7 @@ STATUS_OF_PROBLEM = {
     "ForeignOrigin": 403,
     "ForgedRequest": 403,
     "NotFound": 404,
+    "NoArchive": 404,
     "MethodNotAllowed": 405,
     "TooSlow": 408,
     "ClientGone": 408,
@@ -55,9 +56,10 @@ STATUS_OF_PROBLEM = {
     "CoProcessEnded": 503,
     "StoreLost": 503,
     "HistoryAlmostFull": 503,
+    "ArchiveFailed": 503,
 }
 
 # Statuses of an instance that can't answer now, though another one may, or it itself later.
 PASSING = (408, 425, 429, 502, 503, 504)
 # Problems of status 503 that don't pass.
-LASTING = ("HistoryAlmostFull", "RepositoryFull")
+LASTING = ("HistoryAlmostFull", "RepositoryFull", "ArchiveFailed")

@@ -15,7 +15,9 @@ from job_host.service.keepers.keeper import Keeper
 from job_host.service.keepers.open_items import OpenWanted, open_items
 from job_host.service.pages import Page
 from job_host.service.problems import Problem
+from job_host.service.retention.rounds import Retention
 from job_host.service.settings import HistoryBounds
+from job_host.service.terms.calls import SERVICE_SESSION
 from job_host.service.terms.term import Observers
 
 NO_ROWS = Page(0, 0)
@@ -45,6 +47,10 @@ class Metrics:
         self.late = Gauge("jobhost_late_work_items", "Work items whose lease is late", **given)
         self.vain = Gauge("jobhost_waiting_job_executions", "Job executions that wait though no worker asks", **given)
         self.takeover = Gauge("jobhost_takeover_seconds", "Seconds from the last new epoch to the first call", **given)
+        self.purged = Gauge("jobhost_purged_job_instances", "Job instances of this history that retention purged", **given)
+        self.archived = Counter("jobhost_archived_job_instances", "Job instances that this instance archived", **given)
+        self.round = Gauge("jobhost_retention_round_seconds", "Seconds of the last round of retention", **given)
+        self.left = Gauge("jobhost_retention_left", "Job instances that the last round has left to purge", **given)
 
     def observers(self) -> Observers:
         return Observers(self._observe_commit)
@@ -53,6 +59,12 @@ class Metrics:
         if replies:
             self.commits.observe(seconds)
             self.replies.inc(replies)
+
+    def set_retention(self, retention: Retention) -> None:
+        """What the rounds of this instance did."""
+        self.archived.inc(retention.take_archived())
+        self.round.set(retention.last.seconds)
+        self.left.set(retention.last.left)
 
     async def text(self, keeper: Keeper) -> bytes:
         """All metrics. The counts by batch status are asked for."""
@@ -64,13 +76,16 @@ class Metrics:
         self.takeover.set(keeper.last_takeover)
         self.executions.clear()
         self.held.set(0)
+        self.purged.set(0)
         held = len(keeper.engine.held) if keeper.engine else 0
+        purged = keeper.engine.actions.purges_by[SERVICE_SESSION] if keeper.engine else 0
         try:
             answers = await keeper.ask([query("status_counts")])
         except (Problem, CoProcessEnded):
             return generate_latest(self.registry)
         # What was seen before this answer is kept.
         self.held.set(held)
+        self.purged.set(purged)
         for status, count in read(answers.replies[0])["counts"].items():
             self.executions.labels(status).set(count)
         with suppress(Problem, CoProcessEnded):

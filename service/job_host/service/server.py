@@ -12,6 +12,7 @@ from collections.abc import Awaitable, Callable, Sequence
 from aiohttp import web
 from prometheus_client import CONTENT_TYPE_LATEST
 
+from job_host.archive.folder import ArchiveFolder
 from job_host.catalogue.faults import NoVerdict
 from job_host.catalogue.jobs import JobsRefused, ServedJobs, read_file
 from job_host.protocol.printable import begin_log
@@ -27,6 +28,9 @@ from job_host.service.keepers.embedded import EmbeddedKeeper
 from job_host.service.keepers.keeper import Fatal, Keeper
 from job_host.service.metrics import Metrics
 from job_host.service.problems import Problem, unavailable
+from job_host.service.retention.purging import Purging
+from job_host.service.retention.rounds import Retention
+from job_host.service.routes.archive import make_ready, with_archive
 from job_host.service.routes.console import EVENTS_PATH, ConsoleFiles, show_events
 from job_host.service.routes.table import ROUTES
 from job_host.service.settings import ServeSettings
@@ -77,6 +81,15 @@ def make_keeper(settings: ServeSettings, metrics: Metrics) -> Keeper:
     return PostgresKeeper(settings, served, leases, metrics.observers())
 
 
+def begun_archive(settings: ServeSettings) -> ArchiveFolder | None:
+    """The archive, if there is one. Raises OSError if it can't be used."""
+    if settings.archive is None:
+        return None
+    archive = ArchiveFolder(settings.archive)
+    archive.begin()
+    return archive
+
+
 class Service:
     """One instance. Probes and the console's files need no token; everything else does, where tokens are used."""
 
@@ -89,7 +102,11 @@ class Service:
         self.watchers = Places(settings.bounds.watchers, "consoles follow already")
         waits = Places(settings.bounds.waits, "claims wait for work already: this one may be made again")
         self.ending = asyncio.Event()
-        self.host = Host(settings, self.keeper, self.access, Gate(settings.bounds), waits, self.ending)
+        archive = begun_archive(settings)
+        self.purging = Purging(self.keeper, archive)
+        self.retention = Retention(self.keeper, settings, self.purging)
+        gate = Gate(settings.bounds)
+        self.host = Host(settings, self.keeper, self.access, gate, waits, self.ending, self.purging.purge, archive)
         self.port = settings.port
         self.certificate: Certificate | None = None
         self._runner: web.ServerRunner | None = None
@@ -123,7 +140,10 @@ class Service:
         async def serve(request: web.Request) -> web.StreamResponse:
             asked = self._asked(request, route.right, route.words)
             with self.host.gate.enter(asked.client):
-                return await route.handler(asked)
+                try:
+                    return await route.handler(asked)
+                except Problem as problem:
+                    raise await with_archive(asked, problem) from None
 
         return serve
 
@@ -201,6 +221,7 @@ class Service:
             raise web.HTTPUnauthorized(text="") from None
 
     async def _show_metrics(self, asked: Asked) -> web.StreamResponse:
+        self.metrics.set_retention(self.retention)
         text = await self.metrics.text(self.keeper)
         return web.Response(body=text, headers={"Content-Type": CONTENT_TYPE_LATEST})
 
@@ -252,6 +273,8 @@ class Service:
         """Takes no more connections, ends what only waits, and lets the calls in hand end."""
         self.ending.set()
         self.keeper.end_waits()
+        if self.host.archive is not None:
+            self.host.archive.close()
         if self._runner is not None:
             await self._runner.cleanup()
 
@@ -282,6 +305,19 @@ class Service:
         except (Problem, NoVerdict, OSError) as fault:
             log.error("the jobs aren't read again: %s", fault)
 
+    async def keep(self) -> None:
+        """Keeps the history until the keeper ends, and purges meanwhile what is over for long. Raises Fatal."""
+        loop = asyncio.get_running_loop()
+        beside = [loop.create_task(self.retention.run())]
+        if self.host.archive is not None:
+            beside.append(loop.create_task(make_ready(self.host.archive)))
+        try:
+            await self.keeper.run()
+        finally:
+            for task in beside:
+                task.cancel()
+            await asyncio.wait(beside)
+
     async def run(self) -> None:
         """Serves until SIGTERM or SIGINT. Raises Fatal if the keeper can't go on."""
         told = asyncio.Event()
@@ -292,7 +328,7 @@ class Service:
         loop.add_signal_handler(signal.SIGHUP, self.read_again)
         await self.listen()
         log.warning("listens on %s, port %d", self.settings.host, self.port)
-        keeping = loop.create_task(self.keeper.run())
+        keeping = loop.create_task(self.keep())
         warning = loop.create_task(self._warn())
         until_told = loop.create_task(told.wait())
         await asyncio.wait([keeping, until_told], return_when=asyncio.FIRST_COMPLETED)

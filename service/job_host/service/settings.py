@@ -74,6 +74,10 @@ class ServeSettings:
     takeover_after: float = 5.0
     commit_timeout: float = 30.0
     other_history: HistoryBounds | None = None
+    # Job instances that are over are purged after so many days, and those that may be restarted. None are without a number.
+    keep_days: int | None = None
+    keep_failed_days: int | None = None
+    archive: Path | None = None
     bounds: Bounds = field(default_factory=Bounds)
 
     @property

@@ -17,7 +17,24 @@ const CAUSES = { FAILED: "Why it failed", STOPPED: "Where it stopped" };
 // The lists of the page, each with its rows at once, and the words of the address that say which of its pages is shown.
 const LISTS = { others: USUAL_SIZE, items: MOST_ROWS, logs: USUAL_SIZE, operations: USUAL_SIZE };
 
-async function load({ number, query }) {
+async function load(asked) {
+  const { number, query } = asked;
+  if (query.get("history")) return loadArchived(number, query.get("history"), query);
+  try {
+    return await loadKept(asked);
+  } catch (fault) {
+    if (!fault.archived) throw fault;
+    return loadArchived(number, fault.archived.history, query);
+  }
+}
+
+// What the archive has of a job execution of a history. Its lists have the same page.
+async function loadArchived(number, history, query) {
+  const page = pageOf(query) ? { page: pageOf(query) } : {};
+  return { one: await read(`/batch/archive/jobexecutions/${number}`, { history, ...page }), isArchived: true };
+}
+
+async function loadKept({ number, query }) {
   const [asked, path] = [pageNow(), `/batch/jobexecutions/${number}`];
   const one = await read(path);
   const instance = `/batch/jobinstances/${one.instanceId}`;
@@ -180,16 +197,56 @@ function turn(name, label, data, { number, query }, words) {
   return pager(label, pageOf(query, name), data[name].length === LISTS[name], to, "", words);
 }
 
+// Links to the other pages of what the archive has, if its lists have any.
+function turnArchived({ executionId, history, more }, { query }) {
+  const page = pageOf(query);
+  const hasMore = Object.values(more).some(Boolean);
+  if (!page && !hasMore) return null;
+  const to = (number) => `#/execution/${executionId}?${new URLSearchParams({ history, page: number })}`;
+  return pager("Pages of the lists", page, hasMore, to, `page ${page + 1} of each list`, ["Before", "After"]);
+}
+
+// What the archive has of a job execution that was purged.
+function drawArchived(one, route) {
+  const { operations, workItems: items } = one;
+  const data = { one, operations, items, shape: { elements: [] }, isWhole: { items: true } };
+  const label = ({ work, stepName }) => `Log of ${stepName}, work item ${work}`;
+  const log = (each) => element("details", { "data-key": `log ${each.work}` },
+    element("summary", {}, told(each.stepName), each.partition === null ? "" : `, partition ${each.partition}`,
+      `, work item ${each.work}`),
+    element("pre", { tabindex: "0", role: "group", "aria-label": label(each), dir: "auto" }, each.log));
+  const logs = one.logs.filter((each) => each.log);
+  return [
+    heading("Job execution ", String(one.executionId), " of ", jobOf(one), " ", badge(one.batchStatus)),
+    element("p", { class: "waits", role: "status" },
+      "It was purged. The archive has it, in ", told(one.file), ", since ", when(one.archivedTime), "."),
+    section("Facts", facts([
+      ["Job instance", String(one.instanceId)],
+      ["Exit status", one.exitStatus === null ? "" : told(one.exitStatus)],
+      ["Created", when(one.createTime)], ["Started", when(one.startTime)], ["Ended", when(one.endTime)],
+      ["Took", one.startTime ? span(one.startTime, one.endTime) : ""],
+    ])),
+    section("Parameters", parameterList(one.jobParameters)),
+    section("Steps", stepsTable(data)),
+    section("Work items", workTable(data, () => false)),
+    section("Logs",
+      logs.length ? logs.map(log) : element("p", { class: "empty" }, "No worker has handed in a log.")),
+    section("Who did what", operationsTable(data)),
+    turnArchived(one, route),
+  ];
+}
+
 export const execution = {
   page: "executions",
   load,
   title: ({ number }) => `Job execution ${number}`,
   isLive: ({ one }) => UNFINISHED.includes(one.batchStatus),
   // Its own operations, and those on the other attempts. So a page of what is over rests.
-  concerns: ({ one, newest, others }, changed) =>
-    [one, newest, ...others].some((each) => changed.includes(each.executionId)),
+  concerns: ({ isArchived, one, newest, others }, changed) =>
+    !isArchived && [one, newest, ...others].some((each) => changed.includes(each.executionId)),
   draw(data, route, may) {
     const { one, shape } = data;
+    if (data.isArchived) return drawArchived(one, route);
     return [
       heading("Job execution ", String(one.executionId), " of ", jobOf(one), " ", badge(one.batchStatus)),
       actions(data, may),

@@ -1,5 +1,6 @@
 // The pages: each has what it reads, and what it shows of that.
 
+import { archivedBy, archiveSection } from "./archive.js";
 import { tookBar } from "./bars.js";
 import {
   badge, button, count, element, executionLink, facts, heading, jobOf, link, MOST_ROWS, pageOf, pager, section, span,
@@ -189,12 +190,15 @@ function fullness(history) {
 // Executions: by batch status, the newest first, with search and pages.
 export const executions = {
   page: "executions",
-  load({ query }) {
+  async load({ query }) {
     const given = { pageSize: USUAL_SIZE, page: pageOf(query), details: true };
     for (const name of ["status", "search", "jobName", ...Object.keys(DAYS)]) {
       if (query.get(name)) given[name] = query.get(name);
     }
-    return read("/batch/jobexecutions", given);
+    const [list, archived] = await Promise.all([
+      read("/batch/jobexecutions", given), archivedBy(given, pageOf(query, "archivePage")),
+    ]);
+    return { ...list, archived };
   },
   title: ({ query }) => `Job executions ${query.get("status") || ""}`.trim(),
   isLive: (data) => data.jobExecutions.some((row) => UNFINISHED.includes(row.batchStatus)),
@@ -213,6 +217,7 @@ export const executions = {
       element("section", { "aria-label": caption },
         executionsTable(caption, data.jobExecutions, "No job execution is found.", mayChoose)),
       turn(data, { ...kept, ...(status ? { status } : {}) }, pageOf(query)),
+      archiveSection(data.archived, { ...kept, ...(status ? { status } : {}) }, pageOf(query, "archivePage")),
     ];
   },
 };

@@ -5,7 +5,7 @@ export const USUAL_SIZE = 50;
 const PATIENCE = 30000;
 const PAUSE = 500;
 const PASSING = [408, 425, 429, 502, 503, 504];
-const LASTING = ["HistoryAlmostFull", "RepositoryFull", "NotLeader"];
+const LASTING = ["HistoryAlmostFull", "RepositoryFull", "ArchiveFailed", "NotLeader"];
 const TOKEN = "jobhost-token";
 
 // Reads are counted for each tab, so that many consoles don't stand in one another's way.
@@ -25,6 +25,8 @@ export class Refused extends Error {
     this.title = document.title || `status ${status}`;
     this.detail = document.detail || "";
     this.leader = document.leader || "";
+    // Where the archive has what isn't in the history any more.
+    this.archived = document.archived || null;
   }
 }
 

@@ -3,6 +3,7 @@
 from __future__ import annotations
 
 from array import array
+from collections import Counter
 from collections.abc import Iterator
 from itertools import islice
 from typing import NamedTuple
@@ -34,6 +35,8 @@ class Actions:
         # The last row of each job execution, and the row of each purged job instance.
         self._last = array("I", [0])
         self._purges: dict[int, int] = {}
+        # How many job instances each session has purged.
+        self.purges_by: Counter[int] = Counter()
         # Clients that did something: their names are kept as long as the history.
         self.sessions: set[int] = set()
 
@@ -51,6 +54,7 @@ class Actions:
 
     def note_purge(self, instance: int, action: Action) -> None:
         self._purges[instance] = self._add(action, 0)
+        self.purges_by[action.session] += 1
 
     def of(self, execution: int, instance: int, page: Page) -> list[Action]:
         """What was done to a job execution, the newest first."""

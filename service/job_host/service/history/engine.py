@@ -85,7 +85,7 @@ class Engine:
         self.actions = Actions()
         self.changes = Changes()
         self.executions = ExecutionIndex(self, names)
-        self.open = OpenIndex(self, self.executions, self.busy, self._may_restart, names)
+        self.open = OpenIndex(self, self.executions, self.busy, self.may_restart, names)
         self.recent: deque[Record] = deque()
         self.digest = LinesDigest()
         self.is_whole = True
@@ -93,7 +93,7 @@ class Engine:
         self.turn = asyncio.Lock()
         self.may_give_work: Callable[[], None] = lambda: None
 
-    def _may_restart(self, job: str) -> bool:
+    def may_restart(self, job: str) -> bool:
         return job not in not_restartable(self.process.catalogue)
 
     def made_between(self, since: int | None, until: int | None) -> tuple[int, int | None]:

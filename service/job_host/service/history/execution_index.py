@@ -13,6 +13,7 @@ from typing import NamedTuple
 
 from job_host.catalogue.names import PLAIN_NAMES, JobNames
 from job_host.protocol.lines import read
+from job_host.protocol.parameters import parameter_text
 from job_host.service.history.answers import Answering
 from job_host.service.pages import Page
 
@@ -64,12 +65,6 @@ class Wanted:
         return any(self.search in text.lower() for text in (row.job, row.exit, parameters))
 
 
-def parameter_text(parameters: dict[str, str], most: int) -> str:
-    """Parameters as one text of at most so many characters."""
-    text = ", ".join(f"{name}={value}" for name, value in parameters.items())
-    return text if len(text) <= most else text[: most - 1] + "\u2026"
-
-
 class ExecutionIndex:
     """Rows of one history. It is told of each operation, and asks for what a list needs and isn't known.
 
@@ -97,6 +92,15 @@ class ExecutionIndex:
     def last(self) -> int:
         """The greatest number of a job execution."""
         return len(self._changed) - 1
+
+    @property
+    def last_instance(self) -> int:
+        """The greatest number of a job instance."""
+        return len(self._newest) - 1
+
+    def changed_at(self, execution: int) -> int:
+        """The last operation on a job execution, but for a purge."""
+        return self._changed[execution]
 
     def note_changed(self, execution: int, operation: int) -> None:
         missing = execution + 1 - len(self._changed)

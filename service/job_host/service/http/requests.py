@@ -13,6 +13,7 @@ from typing import Any, NamedTuple
 
 from aiohttp import web
 
+from job_host.archive.folder import ArchiveFolder
 from job_host.protocol.bounds import MOST_NUMBER
 from job_host.protocol.headers import AT_LEAST, CLIENT, OPERATIONS, REQUEST_KEY
 from job_host.protocol.peers import is_unheard, notice_gone
@@ -21,6 +22,7 @@ from job_host.service.keepers.keeper import Keeper
 from job_host.service.pages import USUAL_SIZE, Page
 from job_host.service.problems import Problem, bad_request
 from job_host.service.settings import Bounds, ServeSettings
+from job_host.service.terms.calls import Call, Kept
 
 KEY = re.compile(r"[\x21-\x7e]+")
 NUMBER = re.compile(r"[0-9]{1,20}")
@@ -88,7 +90,7 @@ class Places:
 
 @dataclass(frozen=True)
 class Host:
-    """The service, as routes see it."""
+    """The service, as routes see it. `purge` makes a purge, after the job instance was archived if there is an archive."""
 
     settings: ServeSettings
     keeper: Keeper
@@ -96,6 +98,8 @@ class Host:
     gate: Gate
     waits: Places
     ending: asyncio.Event
+    purge: Callable[[Call], Awaitable[Kept]]
+    archive: ArchiveFolder | None = None
 
 
 class Asked:

@@ -77,7 +77,7 @@ async def show_instance_of(asked: Asked) -> web.StreamResponse:
 
 async def purge_instance(asked: Asked) -> web.StreamResponse:
     members = {"instance": asked.path_number()}
-    kept = await asked.keeper.submit(Call(asked.client, "purge", members, asked.key, fingerprint("purge", members)))
+    kept = await asked.host.purge(Call(asked.client, "purge", members, asked.key, fingerprint("purge", members)))
     answer_of(kept.reply, kept.seen)
     return asked.answer({**members, "purged": True}, kept.seen)
 

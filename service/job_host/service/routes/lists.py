@@ -4,17 +4,18 @@ from __future__ import annotations
 
 import json
 from collections.abc import Iterable, Sequence
-from datetime import datetime, timezone
 from functools import lru_cache
 from typing import Any
 
 from aiohttp import web
 
+from job_host.archive.moments import DAY, begin_of_day
 from job_host.catalogue.jobs import jobs_of
 from job_host.protocol.batch_statuses import STATUSES
 from job_host.protocol.lines import query, read
 from job_host.protocol.moments import moment
-from job_host.service.history.execution_index import Wanted, parameter_text
+from job_host.protocol.parameters import parameter_text
+from job_host.service.history.execution_index import Wanted
 from job_host.service.history.work_items import Ended
 from job_host.service.http.requests import PAGE_WORDS, Asked, Route
 from job_host.service.keepers.details import Details, details_of
@@ -25,8 +26,6 @@ from job_host.service.routes import views
 from job_host.service.routes.jobs import answer_of, instances_of
 
 WORDS_OF_EXECUTIONS = ("status", "jobName", "search", "mostRecent", "details", "createdFrom", "createdUntil", *PAGE_WORDS)
-# In milliseconds.
-DAY = 86_400_000
 SEARCH_CHARACTERS = 256
 PARAMETER_CHARACTERS = 160
 
@@ -177,7 +176,7 @@ def day_of(asked: Asked, word: str) -> int | None:
     if given is None:
         return None
     try:
-        return int(datetime.strptime(given, "%Y-%m-%d").replace(tzinfo=timezone.utc).timestamp()) * 1_000
+        return begin_of_day(given)
     except ValueError as fault:
         raise bad_request(f"{word} is a day, as 2026-11-27") from fault
 

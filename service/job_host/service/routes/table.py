@@ -2,6 +2,7 @@
 
 from __future__ import annotations
 
-from job_host.service.routes import jobs, lists, logs, open_list, pictures, versions, work
+from job_host.service.routes import archive, jobs, lists, logs, open_list, pictures, versions, work
 
-ROUTES = [*jobs.ROUTES, *lists.ROUTES, *logs.ROUTES, *open_list.ROUTES, *pictures.ROUTES, *versions.ROUTES, *work.ROUTES]
+TABLES = (jobs, lists, logs, open_list, pictures, versions, work, archive)
+ROUTES = [route for table in TABLES for route in table.ROUTES]

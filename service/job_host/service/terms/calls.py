@@ -29,11 +29,12 @@ def everybody_heard() -> bool:
 class Call:
     """A command of a client.
 
-    `resolve` gives members that a query tells. With `wait`, a claim that is answered Nothing is made again until so many
-    seconds are over, or until the client is gone. While its machine is `is_unheard`, no work is given to it. That answer isn't
-    kept: a claim by the same key is a new one. With `is_once` the key is for all clients, as long as the job instance that the
-    call made is there. A refusal isn't kept then. A call with `make` is no line of batchctl's: that makes it, and gives its
-    reply.
+    `resolve` gives members that a query tells. It isn't asked if the key has a reply. With `wait`, a claim that is answered
+    Nothing is made again until so many seconds are over, or until the client is gone. While its machine is `is_unheard`, no
+    work is given to it. That answer isn't kept: a claim by the same key is a new one. With `is_once` the key is for all
+    clients, as long as the job instance that the call made is there. A refusal isn't kept then. A call with `make` is no line
+    of batchctl's: that makes it, and gives its reply. `confirm` raises what keeps a call from being made, with no other line
+    between it and the call's own.
     """
 
     client: str
@@ -48,6 +49,7 @@ class Call:
     is_unheard: Callable[[], bool] = everybody_heard
     is_once: bool = False
     make: Callable[[Call], Awaitable[bytes]] | None = None
+    confirm: Callable[[], Awaitable[None]] | None = None
 
 
 @dataclass(frozen=True)

@@ -175,6 +175,8 @@ class Term(ABC):
     async def begin(self, call: Call) -> Item:
         """Hands a call to the co-process. Its item tells when it is answered, and when that is kept."""
         async with self.engine.turn:
+            if call.confirm is not None:
+                await call.confirm()
             self.check(call)
             item = self.item_of(call)
             self.hand(item)
