@@ -14,3 +14,4 @@ pub mod Damages
 pub mod Misplaced
 pub mod NewLogs
 pub mod Sealing
+pub mod Pushed

@@ -1,5 +1,6 @@
-// The bytes of a new log, of a log that was read, and of a log with one record more.
-ghost use Rattle.std.specs.Prelude.{◌≡◌, ◌≤◌, ◌^◌, ◌∷◌, ◌++◌, ◌||◌, [], length, drop, IfOk, IsTrue, if◌then◌else◌};
+// The bytes of a new log, of a log that was read, and of a log with more records.
+ghost use Rattle.std.specs.Prelude.{◌≡◌, ◌≤◌, ◌<◌, ◌^◌, ◌∷◌, ◌++◌, ◌||◌, [], List, length, drop, IfOk, OnOk, OnErr, IsTrue, if◌then◌else◌};
+ghost use Rattle.durable_log.specs.Format.{LogRecord};
 ghost use Rattle.durable_log.specs.Files.{log_of, StandsFor};
 ghost use Rattle.durable_log.specs.Logs.{records_of, IsRest, Reopens};
 ghost use Rattle.durable_log.specs.Shown.{record_shown, IsEnd};
@@ -83,20 +84,46 @@ pub fn restored(alloc: Global, mut bytes: Vec<u8>, end: End) -> Result<CleanLog,
 /// # Errors
 ///
 /// `AllocError` if memory is refused.
-pub fn with_record(alloc: Global, file: LogFile, added: Record<'_>) -> Result<LogFile, AllocError>
+pub fn with_record(
+    alloc: Global,
+    mut file: LogFile,
+    added: Record<'_>,
+) -> Result<LogFile, AllocError>
     requires rest { IsRest file.bytes.items file.rest }
     requires small { length added.line.now ≤ 2 ^ 24 }
     ensures records { IfOk result (λ more.
         records_of more.bytes.items ≡ records_of file.bytes.items ++ record_shown added.entry ∷ []) }
     ensures rest { IfOk result (λ more. IsRest more.bytes.items more.rest) }
 {
-    let link = file.rest.link;
-    let next = link_after(link, added);
-    let mut bytes = file.bytes;
-    push_record(alloc, &mut bytes, link, next, added)?;
-    let rest = Rest {
-        end: bytes.len() - 3,
-        link: next,
-    };
-    Ok(LogFile { bytes, rest })
+    file.push(alloc, added)?;
+    Ok(file)
+}
+
+impl LogFile {
+    /// Adds a record behind the others. It takes time for the bytes of that record alone, so a log
+    /// of many records is made by [`new_log`] and a `push` for each further one. After each of them
+    /// it is a whole log.
+    ///
+    /// # Errors
+    ///
+    /// `AllocError` if memory is refused. The log is as it was then.
+    pub fn push(&mut self, alloc: Global, added: Record<'_>) -> Result<(), AllocError>
+        requires rest { IsRest self.old.bytes.items self.old.rest }
+        requires small { length added.line.now < 2 ^ 32 }
+        ensures records { OnOk result (records_of self.new.bytes.items
+            ≡ records_of self.old.bytes.items ++ record_shown added.entry ∷ []) }
+        ensures stands { OnOk result ((records : List LogRecord) → StandsFor records self.old.bytes.items
+            → StandsFor (records ++ record_shown added.entry ∷ []) self.new.bytes.items) }
+        ensures rest { IsRest self.new.bytes.items self.new.rest }
+        ensures err { OnErr result (self.new.bytes.items ≡ self.old.bytes.items) }
+    {
+        let link = self.rest.link;
+        let next = link_after(link, added);
+        push_record(alloc, &mut self.bytes, link, next, added)?;
+        self.rest = Rest {
+            end: self.bytes.len() - 3,
+            link: next,
+        };
+        Ok(())
+    }
 }
