@@ -11,3 +11,6 @@ pub mod Ending
 pub mod Turning
 pub mod Whole
 pub mod Splitting
+pub mod Based
+pub mod Placed
+pub mod Staying

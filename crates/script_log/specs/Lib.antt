@@ -7,6 +7,7 @@ pub mod Faults
 pub mod Outcomes
 pub mod Replays
 pub mod Catalogues
+pub mod Bases
 pub mod Ran
 pub mod SoFar
 pub mod InTurn

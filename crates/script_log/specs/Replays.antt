@@ -1,27 +1,35 @@
 -- Replying to the lines of a log again.
 use Rattle.std.specs.Prelude.{ℕ, ◌≡◌, List, [], ◌∷◌, ◌++◌, Bool, true, false, if◌then◌else◌}
 use Rattle.durable_log.specs.Format.{LogRecord, check_of}
-use Rattle.script_log.specs.Runs.{History, is_catalogue, kept_lines, IsRecordAt}
+use Rattle.script_log.specs.Runs.{History, has_no_reply, kept_lines, base_lines, IsRecordAt}
 use Rattle.script_log.specs.declared.replays.ReplayFault.{ReplayFault}
 use Rattle.script_log.specs.declared.replays.ReplayFault.TheVariants as faults
 
--- the history with the line of a record; a catalogue adds no line
+-- the history with the line of a record; a record that has no reply adds no line
 abbrev pub with_line : History → LogRecord → History
-with_line h r = if is_catalogue r then h else record { catalogue = h.catalogue; lines = h.lines ++ r.line ∷ [] }
+with_line h r = if has_no_reply r then h else record h { lines = h.lines ++ r.line ∷ [] }
 
--- the history of the lines of records, for an engine that was made from this catalogue
+-- the history with the lines of records, one after another
+abbrev pub with_lines : History → List LogRecord → History
+with_lines h records = record h { lines = h.lines ++ kept_lines records }
+
+-- the history before the lines of records, for an engine that was made from this catalogue and their base
+abbrev pub begun : List ℕ → List LogRecord → History
+begun catalogue records = record { catalogue = catalogue; base = base_lines records; lines = [] }
+
+-- the history after them
 abbrev pub replayed : List ℕ → List LogRecord → History
-replayed catalogue records = record { catalogue = catalogue; lines = kept_lines records }
+replayed catalogue records = record { catalogue = catalogue; base = base_lines records; lines = kept_lines records }
 
 module _ (keeps : History → List ℕ → Bool) (reply : History → List ℕ → List ℕ) where
   -- a record matches a history: its line is recorded after the history, and its reply has the check; a
-  -- catalogue always matches
+  -- record that has no reply always matches
   abbrev pub IsAlikeBy : Bool → History → LogRecord → Type 0
   IsAlikeBy true h r = Unit {0}
   IsAlikeBy false h r = (keeps h r.line ≡ true) × (check_of (reply h r.line) ≡ r.reply_check)
 
   abbrev pub IsAlike : History → LogRecord → Type 0
-  IsAlike h r = IsAlikeBy (is_catalogue r) h r
+  IsAlike h r = IsAlikeBy (has_no_reply r) h r
 
   -- each record matches the history of those before it
   abbrev pub AreAlike : History → List LogRecord → Type 0
@@ -36,8 +44,8 @@ module _ (keeps : History → List ℕ → Bool) (reply : History → List ℕ �
   -- the record with this number, counted from 0, is the first that doesn't match
   pub record IsOtherReply (catalogue : List ℕ) (records : List LogRecord) (number : ℕ) : Type 0 where
     pub at : IsRecordAt records number
-    pub alike : AreAlike (replayed catalogue []) at.before
-    pub differs : IsAlike (replayed catalogue at.before) at.entry → ⊥
+    pub alike : AreAlike (begun catalogue records) at.before
+    pub differs : IsAlike (with_lines (begun catalogue records) at.before) at.entry → ⊥
 
   -- the reason why the lines of records could not be replied to again
   abbrev pub IsReplayFault : List ℕ → List LogRecord → ReplayFault → Type 0

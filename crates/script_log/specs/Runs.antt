@@ -1,11 +1,12 @@
 -- The replies of an engine to lines, and the records of these lines in its log.
-use Rattle.std.specs.Prelude.{ℕ, ◌≡◌, ◌==◌, List, [], ◌∷◌, ◌++◌, length, Bool, if◌then◌else◌}
+use Rattle.std.specs.Prelude.{ℕ, ◌≡◌, ◌==◌, ◌||◌, List, [], ◌∷◌, ◌++◌, length, Bool, if◌then◌else◌}
 use Rattle.durable_log.specs.Format.{LogRecord, check_of}
-use Rattle.script_log.specs.declared.mark.TheConstants.{CATALOGUE_MARK, OPERATION_MARK}
+use Rattle.script_log.specs.declared.mark.TheConstants.{CATALOGUE_MARK, BASE_MARK, OPERATION_MARK}
 
--- the history that an engine represents: the catalogue's line, and the recorded lines
+-- the history that an engine represents: the catalogue's line, the lines of the base, and the recorded lines
 pub record History : Type 0 where
   pub catalogue : List ℕ
+  pub base : List (List ℕ)
   pub lines : List (List ℕ)
 
 -- THE MEANING OF AN ENGINE: whether it records a line after a history, and its reply to the line
@@ -18,7 +19,7 @@ answering keeps reply = record { keeps = keeps; reply = reply }
 
 -- the history after a line: it grows if the line is recorded
 abbrev pub after : (History → List ℕ → Bool) → History → List ℕ → History
-after keeps h line = if keeps h line then record { catalogue = h.catalogue; lines = h.lines ++ line ∷ [] } else h
+after keeps h line = if keeps h line then record h { lines = h.lines ++ line ∷ [] } else h
 
 -- the history after lines, one after another
 abbrev pub after_all : (History → List ℕ → Bool) → History → List (List ℕ) → History
@@ -33,6 +34,10 @@ replies keeps reply h (line ∷ lines) = reply h line ++ replies keeps reply (af
 -- the record of a catalogue, which has no reply
 abbrev pub catalogue_record : List ℕ → LogRecord
 catalogue_record text = record { mark = CATALOGUE_MARK; line = text; reply_check = 0 }
+
+-- the record of a line of the base, which has no reply
+abbrev pub base_record : List ℕ → LogRecord
+base_record line = record { mark = BASE_MARK; line = line; reply_check = 0 }
 
 -- the record of a line, with the check of its reply
 abbrev pub line_record : List ℕ → List ℕ → LogRecord
@@ -51,19 +56,32 @@ records_of_lines keeps reply h (line ∷ lines) = records_of_line keeps reply h 
 abbrev pub is_catalogue : LogRecord → Bool
 is_catalogue r = r.mark == CATALOGUE_MARK
 
--- the recorded lines: those of all records except catalogues
+-- whether a record is one of the base
+abbrev pub is_base : LogRecord → Bool
+is_base r = r.mark == BASE_MARK
+
+-- whether a record has no reply: a catalogue, or one of the base
+abbrev pub has_no_reply : LogRecord → Bool
+has_no_reply r = is_catalogue r || is_base r
+
+-- the recorded lines: those of all records that have a reply
 abbrev pub kept_lines : List LogRecord → List (List ℕ)
 kept_lines [] = []
-kept_lines (r ∷ records) = if is_catalogue r then kept_lines records else r.line ∷ kept_lines records
+kept_lines (r ∷ records) = if has_no_reply r then kept_lines records else r.line ∷ kept_lines records
+
+-- the lines of the base
+abbrev pub base_lines : List LogRecord → List (List ℕ)
+base_lines [] = []
+base_lines (r ∷ records) = if is_base r then r.line ∷ base_lines records else base_lines records
 
 -- the text of the last catalogue among records, or the given text if there is none
 abbrev pub last_catalogue : List ℕ → List LogRecord → List ℕ
 last_catalogue known [] = known
 last_catalogue known (r ∷ records) = last_catalogue (if is_catalogue r then r.line else known) records
 
--- the history of records: the last catalogue, and the lines of all other records
+-- the history of records: the last catalogue, the lines of the base, and those of all other records
 abbrev pub history_of : List LogRecord → History
-history_of records = record { catalogue = last_catalogue [] records; lines = kept_lines records }
+history_of records = record { catalogue = last_catalogue [] records; base = base_lines records; lines = kept_lines records }
 
 -- one of the records, with its number, counted from 0
 pub record IsRecordAt (records : List LogRecord) (number : ℕ) : Type 0 where

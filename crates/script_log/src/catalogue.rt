@@ -16,7 +16,7 @@ pub struct LogCatalogues<'a> {
 }
 
 // Checks whether record 0 is a catalogue.
-fn begins_with_catalogue(records: &[Record<'_>]) -> bool
+pub(crate) fn begins_with_catalogue(records: &[Record<'_>]) -> bool
     ensures { IsTrue result ↔ BeginsWithCatalogue (map record_shown records.now) }
 {
     match records {

@@ -14,8 +14,9 @@ pub struct Answered {
     pub kept: bool,
 }
 
-/// An engine, which replies to lines after a history: a catalogue, and recorded lines. It need not
-/// store the lines. It may represent several histories, and its replies are due after each of them.
+/// An engine, which replies to lines after a history: a catalogue, the lines of a base, and recorded
+/// lines. It need not store the lines. It may represent several histories, and its replies are due
+/// after each of them.
 pub trait Engine {
     /// Whether the engine represents this history.
     ghost stands: { Self → History → Type 0 };
