@@ -33,6 +33,7 @@ def pytest_addoption(parser: pytest.Parser) -> None:
     drawn = int.from_bytes(os.urandom(4), "big")
     group.addoption("--seed", type=int, default=drawn, metavar="N", help="the seed of all draws")
     group.addoption("--kills", type=int, default=20, metavar="N", help="how often a program is killed in each way")
+    group.addoption("--histories", type=int, default=60, metavar="N", help="how many histories at random are compacted")
     group.addoption("--by-case", action="store_true", help="tell how many requests each refused call makes")
     group.addoption("--record", action="store_true", help="record how many requests for memory there are")
 

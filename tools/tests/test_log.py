@@ -14,7 +14,7 @@ from pathlib import Path
 
 import pytest
 
-from log_trial import catalogues, files, tags
+from log_trial import catalogues, compacted_files, compactions, files, tags
 from log_trial.copies import check_copies
 from log_trial.damages import check_damage, check_long_end, check_opening, damages_of, sample_of
 from log_trial.failures import check_full_disk, failures, small_disk
@@ -100,6 +100,30 @@ def test_other_catalogues(program: Program, folder: Path, trial: Callable[[Progr
 @pytest.mark.parametrize("trial", tags.TRIALS, ids=name_of)
 def test_tags(program: Program, folder: Path, trial: Callable[[Program, Path], None]) -> None:
     trial(program, path_of(folder / "tags"))
+
+
+def test_compactions_of_scripts(program: Program, folder: Path, pool: ThreadPoolExecutor, tell: Tell) -> None:
+    scripts = enumerate(compactions.scripts_to_compact())
+    trials = [partial(compactions.check_script, program, *script, folder / str(at)) for at, script in scripts]
+    tell(f"scripts whose log is compacted: {side_by_side(pool, trials)}")
+
+
+def test_compactions_at_random(
+    program: Program, folder: Path, pool: ThreadPoolExecutor, seed: int, pytestconfig: pytest.Config, tell: Tell
+) -> None:
+    count = pytestconfig.getoption("--histories")
+    trials = [partial(compactions.check_drawn, program, f"{seed} {at}", folder / str(at)) for at in range(count)]
+    tell(f"histories that are compacted: {side_by_side(pool, trials)}")
+
+
+@pytest.mark.parametrize("trial", compacted_files.TRIALS, ids=name_of)
+def test_files_of_compacted_logs(program: Program, folder: Path, trial: Callable[[Program, Path], None]) -> None:
+    trial(program, path_of(folder / "compacted"))
+
+
+@pytest.mark.parametrize("trial", compactions.TRIALS, ids=name_of)
+def test_bases_that_are_none(program: Program, folder: Path, trial: Callable[[Program, Path], None]) -> None:
+    trial(program, path_of(folder / "bases"))
 
 
 def test_failures(program: Program, folder: Path, pool: ThreadPoolExecutor, tell: Tell) -> None:

@@ -15,15 +15,15 @@ use Rattle.script_lines.specs.Device.{Told}
 use Rattle.script_lines.specs.Unread.{Unread, nothing_read}
 use Rattle.script_log.specs.Reading.{reading}
 use Rattle.batch_commands.specs.Devices.{Devices}
-use Rattle.batch_commands.specs.Logging.{AnswersOver, HasFirst, IsBegunFrom, IsCutFrom, IsLogServed, IsReady, IsReopenedFrom, IsSafe, IsUnready, TellsUnready, getting_ready, unready_by_file}
+use Rattle.batch_commands.specs.Logging.{AnswersOver, HasFirst, HasBegun, IsCutFrom, IsLogServed, IsReady, IsReopenedFrom, IsSafe, IsUnready, TellsUnready, getting_ready, unready_by_file}
 use Rattle.batch_commands.specs.declared.logged.Unready.{Unready}
 use Rattle.batch_commands.specs.declared.logged_fault.OverLogFault.{OverLogFault}
 
 -- the file got ready
-pub ready-by : (tags : Bool) (name line : List ℕ) (d m d' : List Call) (found : Option (List ℕ)) (bytes cut : List ℕ) (reopens : Bool) (end : ℕ)
-    → IsBegunFrom tags found line (records_of bytes) → IsCutFrom found cut → (IsTrue reopens → IsReopenedFrom found bytes end) → m ≡ read_calls name found d → d' ≡ getting_ready reopens name end cut bytes m
-    → IsSafe reopens end bytes d' → IsReady tags name line d d' bytes
-ready-by tags name line d m d' found bytes cut reopens end begun cut_off sealed read made moments = record {
+pub ready-by : (tags compact : Bool) (name line : List ℕ) (d m d' : List Call) (found : Option (List ℕ)) (bytes cut : List ℕ) (reopens : Bool) (end : ℕ)
+    → HasBegun tags compact found line (records_of bytes) → IsCutFrom found cut → (IsTrue reopens → IsReopenedFrom found bytes end) → m ≡ read_calls name found d → d' ≡ getting_ready reopens name end cut bytes m
+    → IsSafe reopens end bytes d' → IsReady tags compact name line d d' bytes
+ready-by tags compact name line d m d' found bytes cut reopens end begun cut_off sealed read made moments = record {
   found = found;
   begun = begun;
   cut = cut;
@@ -41,9 +41,9 @@ safe-anew true end bytes bytes' d' anew same moments = absurd (false≢true (sym
 safe-anew false end bytes bytes' d' anew same moments = subst (λ (l : List ℕ). AtEachMoment d' (IsBeforeOrWhole l)) same moments
 
 -- the file did not get ready
-pub unmade-by : (tags : Bool) (name line : List ℕ) (d d' : List Call) (found : Option (List ℕ)) (bytes : List ℕ) (reopens : Bool) (end : ℕ) (fault : Unready) (why : FileFault)
-    → IsBegunFrom tags found line (records_of bytes) → (IsTrue reopens → IsReopenedFrom found bytes end) → IsSafe reopens end bytes d' → fault ≡ unready_by_file why → IsUnready tags name line d d' fault
-unmade-by tags name line d d' found bytes reopens end fault why begun sealed moments is = inr (inr (record {
+pub unmade-by : (tags compact : Bool) (name line : List ℕ) (d d' : List Call) (found : Option (List ℕ)) (bytes : List ℕ) (reopens : Bool) (end : ℕ) (fault : Unready) (why : FileFault)
+    → HasBegun tags compact found line (records_of bytes) → (IsTrue reopens → IsReopenedFrom found bytes end) → IsSafe reopens end bytes d' → fault ≡ unready_by_file why → IsUnready tags compact name line d d' fault
+unmade-by tags compact name line d d' found bytes reopens end fault why begun sealed moments is = inr (inr (record {
   found = found;
   bytes = bytes;
   begun = begun;
@@ -82,14 +82,14 @@ ready-of name d d' bytes true (Some file) cut end opening sealed calls = inr (re
 ready-of name d d' bytes false found cut end opening sealed calls = inl (keeping name cut (read_calls name found d), opening-kept name cut _ (opening-read name found d opening), calls)
 
 -- a log that is ready has a file that is
-pub file-ready : (tags : Bool) (name line : List ℕ) (d d' : List Call) (bytes : List ℕ) → IsOpening d → IsReady tags name line d d' bytes → (n : List ℕ) × IsFileReady d' n bytes
-file-ready tags name line d d' bytes opening ready = (name, ready-of name d d' bytes ready.reopens ready.found ready.cut ready.end opening ready.sealed ready.calls)
+pub file-ready : (tags compact : Bool) (name line : List ℕ) (d d' : List Call) (bytes : List ℕ) → IsOpening d → IsReady tags compact name line d d' bytes → (n : List ℕ) × IsFileReady d' n bytes
+file-ready tags compact name line d d' bytes opening ready = (name, ready-of name d d' bytes ready.reopens ready.found ready.cut ready.end opening ready.sealed ready.calls)
 
 -- the lines are answered
-pub lines-by : (tags : Bool) (name : List ℕ) (x x' : Devices) (m : Told) (p0 p p' : Unread) (line line' : List ℕ) (catalogue : List JobTree) (bytes : List ℕ) (made : List Call) (result : Result Unit OverLogFault)
-    → p0 ≡ nothing_read → line' ≡ line → HasFirst x.told m p0 p line catalogue → IsReady tags name line' x.disk made bytes
-    → AnswersOver tags bytes (reading m x'.told p p') made x'.disk x'.held result → IsLogServed tags name x x' result
-lines-by tags name x x' m p0 p p' line line' catalogue bytes made result nothing same first ready answers = inr (inr (inr (
+pub lines-by : (tags compact : Bool) (name : List ℕ) (x x' : Devices) (m : Told) (p0 p p' : Unread) (line line' : List ℕ) (catalogue : List JobTree) (bytes : List ℕ) (made : List Call) (result : Result Unit OverLogFault)
+    → p0 ≡ nothing_read → line' ≡ line → HasFirst x.told m p0 p line catalogue → IsReady tags compact name line' x.disk made bytes
+    → AnswersOver tags bytes (reading m x'.told p p') made x'.disk x'.held result → IsLogServed tags compact name x x' result
+lines-by tags compact name x x' m p0 p p' line line' catalogue bytes made result nothing same first ready answers = inr (inr (inr (
   m,
   p,
   p',
@@ -98,23 +98,23 @@ lines-by tags name x x' m p0 p p' line line' catalogue bytes made result nothing
   bytes,
   made,
   subst (λ (u : Unread). HasFirst x.told m u p line catalogue) nothing first,
-  subst (λ (l : List ℕ). IsReady tags name l x.disk made bytes) same ready,
+  subst (λ (l : List ℕ). IsReady tags compact name l x.disk made bytes) same ready,
   answers,
 )))
 
 -- there is no log
-pub no-log-by : (tags : Bool) (name : List ℕ) (x x' : Devices) (p0 p : Unread) (line line' : List ℕ) (catalogue : List JobTree) (fault : Unready) (result : Result Unit OverLogFault)
-    → p0 ≡ nothing_read → line' ≡ line → HasFirst x.told x'.told p0 p line catalogue → IsUnready tags name line' x.disk x'.disk fault
-    → IsErrAnd result (TellsUnready fault x.held x'.held) → IsLogServed tags name x x' result
-no-log-by tags name x x' p0 p line line' catalogue fault (Ok done) nothing same first unready tells = absurd tells
-no-log-by tags name x x' p0 p line line' catalogue fault (Err end) nothing same first unready tells = inr (inr (inl (
+pub no-log-by : (tags compact : Bool) (name : List ℕ) (x x' : Devices) (p0 p : Unread) (line line' : List ℕ) (catalogue : List JobTree) (fault : Unready) (result : Result Unit OverLogFault)
+    → p0 ≡ nothing_read → line' ≡ line → HasFirst x.told x'.told p0 p line catalogue → IsUnready tags compact name line' x.disk x'.disk fault
+    → IsErrAnd result (TellsUnready fault x.held x'.held) → IsLogServed tags compact name x x' result
+no-log-by tags compact name x x' p0 p line line' catalogue fault (Ok done) nothing same first unready tells = absurd tells
+no-log-by tags compact name x x' p0 p line line' catalogue fault (Err end) nothing same first unready tells = inr (inr (inl (
   p,
   line,
   catalogue,
   fault,
   end,
   subst (λ (u : Unread). HasFirst x.told x'.told u p line catalogue) nothing first,
-  subst (λ (l : List ℕ). IsUnready tags name l x.disk x'.disk fault) same unready,
+  subst (λ (l : List ℕ). IsUnready tags compact name l x.disk x'.disk fault) same unready,
   refl,
   tells,
 )))

@@ -7,7 +7,7 @@ use Rattle.std.specs.Str.Parse.{AllDigits, digits_value, without_leading_plus}
 use Rattle.clap.specs.Words.{takes}
 use Rattle.clap.specs.ValueTests.{is_unsigned_in}
 use Rattle.clap.proofs.OnLiterals.{clap_on_literals}
-use Rattle.batch_commands.specs.Asked.{IsAsked, IsLogName, IsNumberText, AsksFor, HasOptions, HasTags, NamesLog}
+use Rattle.batch_commands.specs.Asked.{IsAsked, IsLogName, IsNumberText, AsksFor, HasFlag, HasFlags, HasOptions, NamesLog}
 use Rattle.clap.specs.declared.error.kind.ErrorKind.{ErrorKind}
 use Rattle.clap.specs.declared.error.kind.ErrorKind.TheVariants.{DisplayHelp, DisplayVersion, OutOfMemory}
 use Rattle.batch_commands.specs.Commands.{batchctl_app}
@@ -170,32 +170,59 @@ takes_rest : (workers : ℕ) (rest options : List (List ℕ)) → 1 ≤ workers 
 takes_rest workers rest options some few (inl is) asks = ap (λ (ws : List (List ℕ)). takes batchctl_app (codes "run" ∷ ws)) is ∙ (takes_options workers options some few asks).0
 takes_rest workers rest options some few (inr is) asks = ap (λ (ws : List (List ℕ)). takes batchctl_app (codes "run" ∷ ws)) is ∙ (takes_options workers options some few asks).1
 
--- a script with a log, and with `--tags` before or behind it
+-- the words behind `script` are taken
+abbrev IsTaken : List (List ℕ) → Type 0
+IsTaken words = takes batchctl_app (codes "script" ∷ words) ≡ true
+
+-- with a flag before or behind them
+abbrev AreTakenWith : List ℕ → List (List ℕ) → Type 0
+AreTakenWith flag words = IsTaken (flag ∷ words) × IsTaken (words ++ flag ∷ [])
+
+-- with two flags, this one outside
+abbrev AreTakenIn : List ℕ → List ℕ → List (List ℕ) → Type 0
+AreTakenIn outside inside words = AreTakenWith outside (inside ∷ words) × AreTakenWith outside (words ++ inside ∷ [])
+
+-- a script with a log, and with `--tags` and `--compact` before or behind it
 abbrev AreTaken : List (List ℕ) → Type 0
-AreTaken options = (takes batchctl_app (codes "script" ∷ options) ≡ true) × (takes batchctl_app (codes "script" ∷ codes "--tags" ∷ options) ≡ true)
-    × (takes batchctl_app (codes "script" ∷ (options ++ codes "--tags" ∷ [])) ≡ true)
+AreTaken options =
+    IsTaken options × AreTakenWith (codes "--tags") options × AreTakenWith (codes "--compact") options
+    × AreTakenIn (codes "--tags") (codes "--compact") options × AreTakenIn (codes "--compact") (codes "--tags") options
 
 takes_log_one : (first : ℕ) (rest : List ℕ) → AreTaken ((codes "--log=" ++ first ∷ rest) ∷ [])
 unfolding clap_on_literals
-takes_log_one first rest = (refl, refl, refl)
+takes_log_one first rest = (refl, (refl, refl), (refl, refl), ((refl, refl), (refl, refl)), ((refl, refl), (refl, refl)))
 
 takes_log_two : (first : ℕ) (rest : List ℕ) → (first == 45) ≡ false → AreTaken (codes "--log" ∷ (first ∷ rest) ∷ [])
 unfolding clap_on_literals
-takes_log_two first rest e = (simp e, simp e, simp e)
+takes_log_two first rest e = (simp e, (simp e, simp e), (simp e, simp e), ((simp e, simp e), (simp e, simp e)), ((simp e, simp e), (simp e, simp e)))
 
 takes_log : (name : List ℕ) (options : List (List ℕ)) → IsLogName name → NamesLog name options → AreTaken options
 takes_log name options (first, rest, is, e) (inl by) = subst AreTaken (sym by) (subst (λ (n : List ℕ). AreTaken ((codes "--log=" ++ n) ∷ [])) (sym is) (takes_log_one first rest))
 takes_log name options (first, rest, is, e) (inr by) = subst AreTaken (sym by) (subst (λ (n : List ℕ). AreTaken (codes "--log" ∷ n ∷ [])) (sym is) (takes_log_two first rest e))
 
-takes_tags : (tags : Bool) (options words : List (List ℕ)) → HasTags tags options words → AreTaken options → takes batchctl_app (codes "script" ∷ words) ≡ true
-takes_tags false options words is taken = ap (λ (ws : List (List ℕ)). takes batchctl_app (codes "script" ∷ ws)) is ∙ taken.0
-takes_tags true options words (inl is) taken = ap (λ (ws : List (List ℕ)). takes batchctl_app (codes "script" ∷ ws)) is ∙ taken.1
-takes_tags true options words (inr is) taken = ap (λ (ws : List (List ℕ)). takes batchctl_app (codes "script" ∷ ws)) is ∙ taken.2
+takes_flag : (flag : List ℕ) (set : Bool) (options words : List (List ℕ)) → HasFlag flag set options words → IsTaken options → AreTakenWith flag options → IsTaken words
+takes_flag flag false options words is none with_it = subst IsTaken (sym is) none
+takes_flag flag true options words (inl is) none with_it = subst IsTaken (sym is) with_it.0
+takes_flag flag true options words (inr is) none with_it = subst IsTaken (sym is) with_it.1
+
+takes_inside : (outside inside : List ℕ) (set : Bool) (options words : List (List ℕ)) → HasFlag inside set options words → AreTakenWith outside options → AreTakenIn outside inside options
+    → AreTakenWith outside words
+takes_inside outside inside false options words is none both = subst (AreTakenWith outside) (sym is) none
+takes_inside outside inside true options words (inl is) none both = subst (AreTakenWith outside) (sym is) both.0
+takes_inside outside inside true options words (inr is) none both = subst (AreTakenWith outside) (sym is) both.1
+
+takes_flags : (tags compact : Bool) (options words : List (List ℕ)) → HasFlags tags compact options words → AreTaken options → IsTaken words
+takes_flags tags compact options words (inl (others, outside, inside)) taken =
+    takes_flag (codes "--tags") tags others words outside (takes_flag (codes "--compact") compact options others inside taken.0 taken.2)
+    (takes_inside (codes "--tags") (codes "--compact") compact options others inside taken.1 taken.3)
+takes_flags tags compact options words (inr (others, outside, inside)) taken =
+    takes_flag (codes "--compact") compact others words outside (takes_flag (codes "--tags") tags options others inside taken.0 taken.1)
+    (takes_inside (codes "--compact") (codes "--tags") tags options others inside taken.2 taken.4)
 
 -- THE WORDS that ask for a script or a run are taken
 pub asked_taken : (arguments : Arguments) (words : List (List ℕ)) → IsAsked arguments words → takes batchctl_app words ≡ true
 asked_taken Script words is = ap (takes batchctl_app) is ∙ takes_script
-asked_taken (LoggedScript log tags) words (named, (rest, options, is, has, names)) = ap (takes batchctl_app) is ∙ takes_tags tags options rest has (takes_log log.now options named names)
+asked_taken (LoggedScript log tags compact) words (named, (rest, options, is, has, names)) = ap (takes batchctl_app) is ∙ takes_flags tags compact options rest has (takes_log log.now options named names)
 asked_taken (Run workers) words (some, few, (rest, options, is, has, asks)) = ap (takes batchctl_app) is ∙ takes_rest workers rest options some few has asks
 
 -- want of memory is no text that the words ask for

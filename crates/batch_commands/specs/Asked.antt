@@ -27,16 +27,23 @@ IsLogName name = (first : ℕ) × (rest : List ℕ) × (name ≡ first ∷ rest)
 abbrev pub NamesLog : List ℕ → List (List ℕ) → Type 0
 NamesLog name words = (words ≡ (codes "--log=" ++ name) ∷ []) ⊎ (words ≡ codes "--log" ∷ name ∷ [])
 
--- words are these options, and say whether lines may have tags: they do by `--tags` at the begin or at the end
-abbrev pub HasTags : Bool → List (List ℕ) → List (List ℕ) → Type 0
-HasTags false options words = words ≡ options
-HasTags true options words = (words ≡ codes "--tags" ∷ options) ⊎ (words ≡ options ++ codes "--tags" ∷ [])
+-- words are these options, and say whether a flag is set: it is if it stands at the begin or at the end
+abbrev pub HasFlag : List ℕ → Bool → List (List ℕ) → List (List ℕ) → Type 0
+HasFlag flag false options words = words ≡ options
+HasFlag flag true options words = (words ≡ flag ∷ options) ⊎ (words ≡ options ++ flag ∷ [])
+
+-- words are these options, and say by `--tags` whether lines may have tags, and by `--compact` whether the log is compacted. The
+-- two stand in any order
+abbrev pub HasFlags : Bool → Bool → List (List ℕ) → List (List ℕ) → Type 0
+HasFlags tags compact options words =
+    ((others : List (List ℕ)) × HasFlag (codes "--tags") tags others words × HasFlag (codes "--compact") compact options others)
+    ⊎ ((others : List (List ℕ)) × HasFlag (codes "--compact") compact others words × HasFlag (codes "--tags") tags options others)
 
 -- one word asks for a script, and more words for one with a log. For a run, it is the first word; the options
 -- ask for 1 to 16 workers
 abbrev pub IsAsked : Arguments → List (List ℕ) → Type 0
 IsAsked Script words = words ≡ codes "script" ∷ []
-IsAsked (LoggedScript log tags) words = IsLogName log.now × ((rest : List (List ℕ)) × (options : List (List ℕ)) × (words ≡ codes "script" ∷ rest) × HasTags tags options rest × NamesLog log.now options)
+IsAsked (LoggedScript log tags compact) words = IsLogName log.now × ((rest : List (List ℕ)) × (options : List (List ℕ)) × (words ≡ codes "script" ∷ rest) × HasFlags tags compact options rest × NamesLog log.now options)
 IsAsked (Run workers) words = (1 ≤ workers) × (workers ≤ 16) × ((rest : List (List ℕ)) × (options : List (List ℕ)) × (words ≡ codes "run" ∷ rest) × HasOptions options rest × AsksFor workers options)
 
 -- the words ask for neither a script nor a run

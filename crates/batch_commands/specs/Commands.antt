@@ -19,9 +19,13 @@ log_rule = record (new_rule (codes "log")) { long = Some (codes "log"); value_na
 abbrev pub tags_rule : Rule
 tags_rule = record (new_rule (codes "tags")) { long = Some (codes "tags"); action = Some SetTrue }
 
+-- the option `--compact` takes nothing
+abbrev pub compact_rule : Rule
+compact_rule = record (new_rule (codes "compact")) { long = Some (codes "compact"); action = Some SetTrue }
+
 -- the command `script`
 abbrev pub script_app : App
-script_app = with_rule (with_rule (new_app (codes "script")) log_rule) tags_rule
+script_app = with_rule (with_rule (with_rule (new_app (codes "script")) log_rule) tags_rule) compact_rule
 
 -- the command `run`
 abbrev pub run_app : App

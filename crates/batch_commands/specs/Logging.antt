@@ -23,9 +23,10 @@ use Rattle.script_engine.specs.declared.fault.EngineFault.TheVariants as engine
 use Rattle.script_log.specs.Covered.{Covered}
 use Rattle.script_log.specs.Hosts.{Hosting, State, hosting}
 use Rattle.script_log.specs.Reading.{Reading, reading, lines_in}
-use Rattle.script_log.specs.Runs.{catalogue_record}
+use Rattle.script_log.specs.Runs.{catalogue_record, history_of}
 use Rattle.script_log.specs.declared.fault.RunFault.{RunFault}
 use Rattle.script_log.specs.declared.fault.RunFault.TheVariants as runs
+use Rattle.logged_script.specs.Compactions.{IsCompacted}
 use Rattle.logged_script.specs.Faults.{IsOpeningFault}
 use Rattle.logged_script.specs.Histories.{is_kept, reply_at}
 use Rattle.logged_script.specs.Logged.{Ends, IsAnsweredOver}
@@ -141,6 +142,13 @@ abbrev pub IsBegunFrom : Bool → Option (List ℕ) → List ℕ → List LogRec
 IsBegunFrom tags None line now = now ≡ catalogue_record line ∷ []
 IsBegunFrom tags (Some file) line now = IsBegun tags file line now
 
+-- THE RECORDS OF A RUN: those with which it begins; or, if the log is compacted, those of a log with the same rows and without
+-- that past
+abbrev pub HasBegun : Bool → Bool → Option (List ℕ) → List ℕ → List LogRecord → Type 0
+HasBegun tags compact found line now =
+    IsBegunFrom tags found line now
+    ⊎ ((compact ≡ true) × ((earlier : List LogRecord) × IsBegunFrom tags found line earlier × IsCompacted tags (history_of earlier) line (history_of now)))
+
 -- the reason why a run does not begin with the file that was found
 abbrev pub IsFaultFrom : Bool → Option (List ℕ) → List ℕ → OpeningFault → Type 0
 IsFaultFrom tags None line fault = fault ≡ openings.OutOfMemory
@@ -169,9 +177,9 @@ IsSafe true end bytes d' = (file : List ℕ) → end + 3 ≤ length file → AtE
 IsSafe false end bytes d' = AtEachMoment d' (IsBeforeOrWhole bytes)
 
 -- THE FILE OF THIS NAME GOT READY with these bytes: it was sealed and goes on, or was made anew
-pub record IsReady (tags : Bool) (name line : List ℕ) (d d' : List Call) (bytes : List ℕ) : Type 0 where
+pub record IsReady (tags compact : Bool) (name line : List ℕ) (d d' : List Call) (bytes : List ℕ) : Type 0 where
   pub found : Option (List ℕ)
-  pub begun : IsBegunFrom tags found line (records_of bytes)
+  pub begun : HasBegun tags compact found line (records_of bytes)
   pub cut : List ℕ
   pub cut_off : IsCutFrom found cut
   pub reopens : Bool
@@ -193,10 +201,10 @@ pub record IsUnrestored (tags : Bool) (name line : List ℕ) (d d' : List Call) 
   pub named : fault ≡ unready_by_log why
 
 -- it did not get ready, and a crash leaves no more than if it had
-pub record IsUnmade (tags : Bool) (line : List ℕ) (d' : List Call) (fault : Unready) : Type 0 where
+pub record IsUnmade (tags compact : Bool) (line : List ℕ) (d' : List Call) (fault : Unready) : Type 0 where
   pub found : Option (List ℕ)
   pub bytes : List ℕ
-  pub begun : IsBegunFrom tags found line (records_of bytes)
+  pub begun : HasBegun tags compact found line (records_of bytes)
   pub reopens : Bool
   pub end : ℕ
   pub sealed : reopens ≡ true → IsReopenedFrom found bytes end
@@ -205,8 +213,8 @@ pub record IsUnmade (tags : Bool) (line : List ℕ) (d' : List Call) (fault : Un
   pub named : fault ≡ unready_by_file why
 
 -- the reason why there is no log over which lines are answered
-abbrev pub IsUnready : Bool → List ℕ → List ℕ → List Call → List Call → Unready → Type 0
-IsUnready tags name line d d' fault = IsUnread d' fault ⊎ IsUnrestored tags name line d d' fault ⊎ IsUnmade tags line d' fault
+abbrev pub IsUnready : Bool → Bool → List ℕ → List ℕ → List Call → List Call → Unready → Type 0
+IsUnready tags compact name line d d' fault = IsUnread d' fault ⊎ IsUnrestored tags name line d d' fault ⊎ IsUnmade tags compact line d' fault
 
 -- the output about that reason
 abbrev pub TellsUnready : Unready → Held → Held → OverLogFault → Type 0
@@ -267,15 +275,16 @@ HasNoCatalogue x x' result = (p : Unread) × (fault : EngineFault) × (end : Ove
     × FailsFirst x.told x'.told nothing_read p fault × (result ≡ Err end) × TellsFirst fault x.held x'.held end × (x'.disk ≡ x.disk)
 
 -- there is no log over which lines are answered
-abbrev pub HasNoLog : Bool → List ℕ → Devices → Devices → Result Unit OverLogFault → Type 0
-HasNoLog tags name x x' result = (p : Unread) × (line : List ℕ) × (catalogue : List JobTree) × (fault : Unready) × (end : OverLogFault)
-    × HasFirst x.told x'.told nothing_read p line catalogue × IsUnready tags name line x.disk x'.disk fault × (result ≡ Err end) × TellsUnready fault x.held x'.held end
+abbrev pub HasNoLog : Bool → Bool → List ℕ → Devices → Devices → Result Unit OverLogFault → Type 0
+HasNoLog tags compact name x x' result = (p : Unread) × (line : List ℕ) × (catalogue : List JobTree) × (fault : Unready) × (end : OverLogFault)
+    × HasFirst x.told x'.told nothing_read p line catalogue × IsUnready tags compact name line x.disk x'.disk fault × (result ≡ Err end) × TellsUnready fault x.held x'.held end
 
 -- the lines are answered over a file that got ready
-abbrev pub AnswersLines : Bool → List ℕ → Devices → Devices → Result Unit OverLogFault → Type 0
-AnswersLines tags name x x' result = (m : Told) × (p p' : Unread) × (line : List ℕ) × (catalogue : List JobTree) × (bytes : List ℕ) × (made : List Call)
-    × HasFirst x.told m nothing_read p line catalogue × IsReady tags name line x.disk made bytes × AnswersOver tags bytes (reading m x'.told p p') made x'.disk x'.held result
+abbrev pub AnswersLines : Bool → Bool → List ℕ → Devices → Devices → Result Unit OverLogFault → Type 0
+AnswersLines tags compact name x x' result = (m : Told) × (p p' : Unread) × (line : List ℕ) × (catalogue : List JobTree) × (bytes : List ℕ) × (made : List Call)
+    × HasFirst x.told m nothing_read p line catalogue × IsReady tags compact name line x.disk made bytes × AnswersOver tags bytes (reading m x'.told p p') made x'.disk x'.held result
 
--- memory is refused before anything is read, or one of these. Lines have tags or not
-abbrev pub IsLogServed : Bool → List ℕ → Devices → Devices → Result Unit OverLogFault → Type 0
-IsLogServed tags name x x' result = ((result ≡ Err OutOfMemory) × (x' ≡ x)) ⊎ HasNoCatalogue x x' result ⊎ HasNoLog tags name x x' result ⊎ AnswersLines tags name x x' result
+-- memory is refused before anything is read, or one of these. Lines have tags or not, and the log is compacted
+-- first or not
+abbrev pub IsLogServed : Bool → Bool → List ℕ → Devices → Devices → Result Unit OverLogFault → Type 0
+IsLogServed tags compact name x x' result = ((result ≡ Err OutOfMemory) × (x' ≡ x)) ⊎ HasNoCatalogue x x' result ⊎ HasNoLog tags compact name x x' result ⊎ AnswersLines tags compact name x x' result

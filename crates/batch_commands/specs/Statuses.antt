@@ -38,9 +38,10 @@ IsScript words x x' status = (outcome : Result Summary EngineFault) × IsAsked S
 abbrev pub IsRun : List (List ℕ) → Devices → Devices → ℕ → Type 0
 IsRun words x x' status = (workers : ℕ) × (outcome : Result Unit EngineFault) × IsAsked (Run workers) words × HasRun x.told x'.told x.held x'.held outcome × (status ≡ exit_status outcome) × (x'.disk ≡ x.disk)
 
--- the words ask for a script over a log, whose lines have tags or not, which is run over the file of that name
+-- the words ask for a script over a log, whose lines have tags or not, and which is compacted first or not. It is run over the file of
+-- that name
 abbrev pub IsLoggedScript : List (List ℕ) → Devices → Devices → ℕ → Type 0
-IsLoggedScript words x x' status = (log : Bor (List ℕ)) × (tags : Bool) × (outcome : Result Unit OverLogFault) × IsAsked (LoggedScript log tags) words × IsLogServed tags log.now x x' outcome × (status ≡ over_log_exit outcome)
+IsLoggedScript words x x' status = (log : Bor (List ℕ)) × (tags : Bool) × (compact : Bool) × (outcome : Result Unit OverLogFault) × IsAsked (LoggedScript log tags compact) words × IsLogServed tags compact log.now x x' outcome × (status ≡ over_log_exit outcome)
 
 -- THE EXIT STATUS of the command that the words ask for
 abbrev pub IsServed : List (List ℕ) → Devices → Devices → ℕ → Type 0

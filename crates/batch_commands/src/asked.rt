@@ -9,6 +9,8 @@ pub enum Arguments<'a> {
         log: &'a str,
         /// Whether lines may have tags.
         tags: bool,
+        /// Whether the log is compacted before the first line is answered.
+        compact: bool,
     },
     /// Runs a catalogue's jobs.
     Run {

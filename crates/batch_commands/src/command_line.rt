@@ -1,11 +1,12 @@
 ghost use Rattle.std.specs.Prelude.{◌≡◌, ◌≤◌, ◌↔◌, ◌∷◌, ◌++◌, List, ℕ, [], false, IsTrue, IfOk, IfSome, IfErr, IsErrAnd, codes, map};
 ghost use Rattle.clap.specs.Words.{app_of, new_app, rule_of};
-ghost use Rattle.batch_commands.specs.Asked.{IsAsked, IsLogName, IsNumberText, AskForNone, AsksFor, HasOptions, HasTags, NamesLog};
-ghost use Rattle.batch_commands.specs.Commands.{IsShown, bare_app, batchctl_app, log_rule, run_app, script_app, scripts_app, tags_rule, workers_rule};
+ghost use Rattle.batch_commands.specs.Asked.{IsAsked, IsLogName, IsNumberText, AskForNone, AsksFor, HasFlag, HasFlags, HasOptions, NamesLog};
+ghost use Rattle.batch_commands.specs.Commands.{IsShown, bare_app, batchctl_app, compact_rule, log_rule, run_app, script_app, scripts_app, tags_rule, workers_rule};
 
 use crate::asked::Arguments;
 use crate::help::{
-    ABOUT, LOG_HELP, RUN_ABOUT, RUN_HELP, SCRIPT_ABOUT, SCRIPT_HELP, TAGS_HELP, WORKERS_HELP,
+    ABOUT, COMPACT_HELP, LOG_HELP, RUN_ABOUT, RUN_HELP, SCRIPT_ABOUT, SCRIPT_HELP, TAGS_HELP,
+    WORKERS_HELP,
 };
 use clap::builder::ValueParser;
 use clap::error::ErrorKind;
@@ -59,14 +60,43 @@ fn log_of<'a>(words: &[&'a str]) -> Option<&'a str>
     }
 }
 
-/// Returns the words without a `--tags` at their begin or at their end, and whether there was one.
-fn without_tags<'a, 'b>(words: &'b [&'a str]) -> (&'b [&'a str], bool)
-    ensures { HasTags result.1 (map (λ word. word.now) result.0.now) (map (λ word. word.now) words.now) }
+/// Returns the words without a flag at their begin or at their end, and whether there was one.
+fn without<'a, 'b>(words: &'b [&'a str], flag: &str) -> (&'b [&'a str], bool)
+    ensures { HasFlag flag.now result.1 (map (λ word. word.now) result.0.now) (map (λ word. word.now) words.now) }
 {
     match words {
-        [option, log @ ..] if *option == "--tags" => (log, true),
-        [log @ .., option] if *option == "--tags" => (log, true),
+        [option, others @ ..] if *option == flag => (others, true),
+        [others @ .., option] if *option == flag => (others, true),
         _ => (words, false),
+    }
+}
+
+/// The words after `script` without its flags.
+struct Flagged<'a, 'b> {
+    options: &'b [&'a str],
+    tags: bool,
+    compact: bool,
+}
+
+/// Returns the words without `--tags` and `--compact`.
+fn without_flags<'a, 'b>(words: &'b [&'a str]) -> Flagged<'a, 'b>
+    ensures { HasFlags result.tags result.compact (map (λ word. word.now) result.options.now) (map (λ word. word.now) words.now) }
+{
+    let (others, tags) = without(words, "--tags");
+    if tags {
+        let (options, compact) = without(others, "--compact");
+        return Flagged {
+            options,
+            tags,
+            compact,
+        };
+    }
+    let (others, compact) = without(words, "--compact");
+    let (options, tags) = without(others, "--tags");
+    Flagged {
+        options,
+        tags,
+        compact,
     }
 }
 
@@ -134,9 +164,13 @@ fn asked<'a>(matches: &ArgMatches<'_>, words: &[&'a str]) -> Option<Arguments<'a
         return Some(Arguments::Script);
     }
     if let Some(rest) = behind(words, "script") {
-        let (options, tags) = without_tags(rest);
+        let Flagged {
+            options,
+            tags,
+            compact,
+        } = without_flags(rest);
         let log = log_of(options)?;
-        return Some(Arguments::LoggedScript { log, tags });
+        return Some(Arguments::LoggedScript { log, tags, compact });
     }
     let rest = behind(words, "run")?;
     let workers = workers_of(matches)?;
@@ -170,6 +204,17 @@ fn tags_argument<'a>(alloc: Global) -> Arg<'a>
         .action(ArgAction::SetTrue)
 }
 
+/// Returns the argument `--compact` of the command `script`.
+fn compact_argument<'a>(alloc: Global) -> Arg<'a>
+    ensures rule { rule_of result ≡ compact_rule }
+    ensures local { result.global ≡ false }
+{
+    Arg::new(alloc, "compact")
+        .long("compact")
+        .help(COMPACT_HELP)
+        .action(ArgAction::SetTrue)
+}
+
 /// Returns the command `script`.
 fn script_command<'a>(alloc: Global) -> Result<Command<'a>, AllocError>
     ensures { IfOk result (λ command. app_of command ≡ script_app) }
@@ -178,7 +223,8 @@ fn script_command<'a>(alloc: Global) -> Result<Command<'a>, AllocError>
         .about(SCRIPT_ABOUT)
         .after_help(SCRIPT_HELP)
         .arg(log_argument(alloc))?
-        .arg(tags_argument(alloc))
+        .arg(tags_argument(alloc))?
+        .arg(compact_argument(alloc))
 }
 
 /// Returns the argument `--workers` of the command `run`.
@@ -210,7 +256,7 @@ fn run_command<'a>(alloc: Global) -> Result<Command<'a>, AllocError>
 ///
 /// - the one word `script`
 /// - `script` with a log by `--log FILE` or `--log=FILE`, whose name begins with no hyphen, and if
-///   need be with `--tags` before or behind that
+///   need be with `--tags` and `--compact`, each before or behind that
 /// - `run` with 1 to 16 workers, by `--workers N` or `--workers=N`, or with 2 by default
 ///
 /// # Errors

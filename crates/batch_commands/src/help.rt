@@ -73,6 +73,11 @@ With `--tags`, too, each line behind the catalogue may begin with a tag: up to 5
 FILE keeps the whole line, and no reply depends on its tag. A line that begins with `{` has none. A
 FILE that was made with tags is only read with them.
 
+With `--compact`, too, FILE is made anew before the first line is answered: it has the rows that exist,
+and none of the operations that led to them. Each reply is as if it had all of them. FILE is as small
+then as what is kept, and is opened as fast. If that fails, one line on standard error says so, and FILE
+goes on as it was.
+
 Exit status: 0 done, 2 the command line was refused, 3 the catalogue was refused (its fault is the
 one line of output), 4 a read or a write failed, 5 out of memory; with a log also 6 its file failed,
 7 the log was refused (its fault is the one line of output)."#;
@@ -82,6 +87,9 @@ pub const LOG_HELP: &str = "Keeps what is accepted in this file, and goes on fro
 
 /// The purpose of `--tags`.
 pub const TAGS_HELP: &str = "Lines may begin with a tag and a tab; a log keeps the tags";
+
+/// The purpose of `--compact`.
+pub const COMPACT_HELP: &str = "Makes the log's file anew from what exists, without its past";
 
 /// The purpose of `run`.
 pub const RUN_ABOUT: &str =

@@ -1,5 +1,5 @@
 // A script over a log.
-ghost use Rattle.std.specs.Prelude.{◌≡◌, [], List, ℕ, false, None, Ok, IfOk, IfErr, IsErrAnd, IsTrue, OnOk};
+ghost use Rattle.std.specs.Prelude.{◌≡◌, ◌⊎◌, [], List, ℕ, false, None, Ok, IfOk, IfErr, IsErrAnd, IsTrue, OnOk};
 ghost use Rattle.std.specs.Option.{option_map};
 ghost use Rattle.durable_log.specs.Logs.{records_of, IsRest};
 ghost use Rattle.file_host.specs.Making.{IsOpening, IsReady as IsFileReady};
@@ -7,21 +7,25 @@ ghost use Rattle.script_engine.specs.Script.{catalogue_at};
 ghost use Rattle.script_log.specs.Reading.{reading};
 ghost use Rattle.script_log.specs.Runs.{history_of};
 ghost use Rattle.batch_service.specs.Answering.{Answers};
+ghost use Rattle.jsl_model.specs.Jobs.{JobTree};
+ghost use Rattle.logged_script.specs.Compactions.{IsCompacted};
+ghost use Rattle.logged_script.specs.Histories.{jobs_at, jobs_read};
 ghost use Rattle.logged_script.specs.Texts.{log_fault_text};
 ghost use Rattle.logged_script.specs.declared.opening.OpeningFault.TheVariants.{OutOfMemory};
 ghost use Rattle.batch_commands.specs.declared.logged_fault.OverLogFault.TheVariants.{Refused};
 ghost use Rattle.batch_commands.specs.Devices.{devices};
-ghost use Rattle.batch_commands.specs.Logging.{AnswersOver, FailsFirst, HasFirst, HasName, IsBegunFrom, IsCutFrom, IsFaultFrom, IsLogServed, IsReady, IsReopenedFrom, IsSafe, IsUnready, PutsLine, Tells, TellsFirst, TellsUnready, getting_ready, outcome_over, over_log_exit, unready_by_file, unready_by_log};
+ghost use Rattle.batch_commands.specs.Logging.{AnswersOver, FailsFirst, HasBegun, HasFirst, HasName, IsBegunFrom, IsCutFrom, IsFaultFrom, IsLogServed, IsReady, IsReopenedFrom, IsSafe, IsUnready, PutsLine, Tells, TellsFirst, TellsUnready, getting_ready, outcome_over, over_log_exit, unready_by_file, unready_by_log};
 
 use crate::logged_fault::OverLogFault;
 use crate::main_program::DONE;
 use crate::replies::{flush, put};
-use batch_service::{RestoredLog, ScriptEngine};
+use batch_service::{LogRows, RestoredLog, ScriptEngine};
 use durable_log::{Log, SHUT};
 use file_host::{Disk, FileFault, FileHost, make_anew, read_file, resume};
 use jsl_model::Catalogue;
 use logged_script::{
-    LogFault, OpeningFault, answer_restored, catalogue_at, log_fault_text, new_log, restore,
+    LogFault, OpeningFault, answer_restored, catalogue_at, compacted, log_fault_text, new_log,
+    restore,
 };
 use script_engine::{EngineFault, Line, OutputBuffer, ReadFault, Sink, Source, fault_text};
 use script_lines::InputBuffer;
@@ -135,6 +139,7 @@ fn fresh_log<const TAGS: bool>(
     ensures begun { IfOk result (λ log. IsBegunFrom TAGS None line.now (records_of log.file.bytes.items)) }
     ensures rest { IfOk result (λ log. IsRest log.file.bytes.items log.file.rest) }
     ensures answers { IfOk result (λ log. Answers TAGS log.engine (history_of (records_of log.file.bytes.items))) }
+    ensures jobs { IfOk result (λ log. jobs_at (history_of (records_of log.file.bytes.items)) ≡ catalogue) }
     ensures cut { IfOk result (λ log. log.cut.items ≡ []) }
     ensures reopens { IfOk result (λ log. log.reopens ≡ false) }
     ensures fault { IfErr result (λ fault. fault ≡ OutOfMemory) }
@@ -162,13 +167,74 @@ fn find_log<const TAGS: bool>(
     ensures begun { IfOk result (λ log. IsBegunFrom TAGS (option_map (λ file. file.items) found) line.now (records_of log.file.bytes.items)) }
     ensures rest { IfOk result (λ log. IsRest log.file.bytes.items log.file.rest) }
     ensures answers { IfOk result (λ log. Answers TAGS log.engine (history_of (records_of log.file.bytes.items))) }
+    ensures jobs { IfOk result (λ log. jobs_at (history_of (records_of log.file.bytes.items)) ≡ catalogue) }
     ensures cut { IfOk result (λ log. IsCutFrom (option_map (λ file. file.items) found) log.cut.items) }
     ensures reopens { IfOk result (λ log. IsTrue log.reopens → IsReopenedFrom (option_map (λ file. file.items) found) log.file.bytes.items log.file.rest.end) }
     ensures fault { IfErr result (IsFaultFrom TAGS (option_map (λ file. file.items) found) line.now) }
 {
     match found {
-        Some(file) => restore(alloc, file, line, catalogue),
+        Some(file) => restore::<_, LogRows, TAGS>(alloc, file, line, catalogue),
         None => fresh_log(alloc, line, catalogue),
+    }
+}
+
+/// Compacts a restored log. If that fails, it says so on standard error, and returns the log as it was.
+fn compact_log<F: Write, const TAGS: bool>(
+    alloc: Global,
+    line: &[u8],
+    log: RestoredLog<TAGS>,
+    faults: &mut F,
+) -> RestoredLog<TAGS>
+    requires catalogue { (catalogue : List JobTree) × (catalogue_at line.now ≡ Ok catalogue) }
+    requires jobs { jobs_at (history_of (records_of log.file.bytes.items)) ≡ jobs_read (catalogue_at line.now) }
+    requires rest { IsRest log.file.bytes.items log.file.rest }
+    requires answers { Answers TAGS log.engine (history_of (records_of log.file.bytes.items)) }
+    ensures compacted { (result ≡ log.entry) ⊎ IsCompacted TAGS (history_of (records_of log.entry.file.bytes.items)) line.now (history_of (records_of result.file.bytes.items)) }
+    ensures rest { IsRest result.file.bytes.items result.file.rest }
+    ensures answers { Answers TAGS result.engine (history_of (records_of result.file.bytes.items)) }
+    ensures cut { result.cut.items ≡ log.entry.cut.items }
+    ensures reopens { IsTrue result.reopens → result ≡ log.entry }
+{
+    match compacted::<_, LogRows, TAGS>(alloc, line, &log.engine) {
+        Ok(made) => {
+            let RestoredLog { cut, .. } = log;
+            RestoredLog {
+                file: made.file,
+                cut,
+                reopens: false,
+                engine: made.engine,
+            }
+        }
+        Err(fault) => {
+            let _ = writeln!(faults, "batchctl: the log is not compacted: {fault}");
+            log
+        }
+    }
+}
+
+/// Restores the log that was found, or makes one that has only this catalogue. Compacts it if that is
+/// asked for.
+fn prepare_log<F: Write, const TAGS: bool>(
+    alloc: Global,
+    found: Option<Vec<u8>>,
+    line: &[u8],
+    catalogue: Catalogue,
+    compact: bool,
+    faults: &mut F,
+) -> Result<RestoredLog<TAGS>, OpeningFault>
+    requires { catalogue_at line.now ≡ Ok catalogue }
+    ensures begun { IfOk result (λ log. HasBegun TAGS compact (option_map (λ file. file.items) found) line.now (records_of log.file.bytes.items)) }
+    ensures rest { IfOk result (λ log. IsRest log.file.bytes.items log.file.rest) }
+    ensures answers { IfOk result (λ log. Answers TAGS log.engine (history_of (records_of log.file.bytes.items))) }
+    ensures cut { IfOk result (λ log. IsCutFrom (option_map (λ file. file.items) found) log.cut.items) }
+    ensures reopens { IfOk result (λ log. IsTrue log.reopens → IsReopenedFrom (option_map (λ file. file.items) found) log.file.bytes.items log.file.rest.end) }
+    ensures fault { IfErr result (IsFaultFrom TAGS (option_map (λ file. file.items) found) line.now) }
+{
+    let log = find_log(alloc, found, line, catalogue)?;
+    if compact {
+        Ok(compact_log(alloc, line, log, faults))
+    } else {
+        Ok(log)
     }
 }
 
@@ -190,27 +256,29 @@ fn write_ready<D: Disk, const TAGS: bool>(
     }
 }
 
-/// Reads the log of this name, restores it, and makes its file ready.
-fn make_ready<D: Disk, const TAGS: bool>(
+/// Reads the log of this name, restores it, compacts it if that is asked for, and makes its file ready.
+fn make_ready<D: Disk, F: Write, const TAGS: bool>(
     alloc: Global,
     disk: &mut D,
     name: &str,
     line: &[u8],
     catalogue: Catalogue,
+    compact: bool,
+    faults: &mut F,
 ) -> Result<RestoredLog<TAGS>, Unready>
     requires opening { IsOpening (D.past disk.old) }
     requires catalogue { catalogue_at line.now ≡ Ok catalogue }
-    ensures ready { IfOk result (λ log. IsReady TAGS name.now line.now (D.past disk.old) (D.past disk.new) log.file.bytes.items) }
+    ensures ready { IfOk result (λ log. IsReady TAGS compact name.now line.now (D.past disk.old) (D.past disk.new) log.file.bytes.items) }
     ensures file { IfOk result (λ log. (name : List ℕ) × IsFileReady (D.past disk.new) name log.file.bytes.items) }
     ensures rest { IfOk result (λ log. IsRest log.file.bytes.items log.file.rest) }
     ensures answers { IfOk result (λ log. Answers TAGS log.engine (history_of (records_of log.file.bytes.items))) }
-    ensures unready { IfErr result (IsUnready TAGS name.now line.now (D.past disk.old) (D.past disk.new)) }
+    ensures unready { IfErr result (IsUnready TAGS compact name.now line.now (D.past disk.old) (D.past disk.new)) }
 {
     let found = match read_file(disk, alloc, name) {
         Ok(found) => found,
         Err(fault) => return Err(Unready::from(fault)),
     };
-    let log = match find_log(alloc, found, line, catalogue) {
+    let log = match prepare_log(alloc, found, line, catalogue, compact, faults) {
         Ok(log) => log,
         Err(fault) => return Err(Unready::from(fault)),
     };
@@ -284,18 +352,20 @@ fn tell_cut<F: Write, const TAGS: bool>(faults: &mut F, name: &str, log: &Restor
     }
 }
 
-/// Runs a script over a log. With `TAGS`, its lines may have tags.
+/// Runs a script over a log, which is compacted first if that is asked for. With `TAGS`, its lines may
+/// have tags.
 fn answer_over<D: Disk + Drop, S: Source, W: Sink + Drop, F: Write, const TAGS: bool>(
     alloc: Global,
     disk: D,
     name: &str,
+    compact: bool,
     source: &mut S,
     sink: W,
     faults: &mut F,
 ) -> (Result<(), OverLogFault>, D, W)
     requires opening { IsOpening (D.past disk) }
     requires fresh { (W.tape sink).bytes ≡ [] }
-    ensures { IsLogServed TAGS name.now (devices (S.tape source.old) (W.tape sink) (D.past disk))
+    ensures { IsLogServed TAGS compact name.now (devices (S.tape source.old) (W.tape sink) (D.past disk))
         (devices (S.tape source.new) (W.tape result.2) (D.past result.1)) result.0 }
 {
     let mut disk = disk;
@@ -311,7 +381,8 @@ fn answer_over<D: Disk + Drop, S: Source, W: Sink + Drop, F: Write, const TAGS: 
             return (end, disk, sink);
         }
     };
-    match make_ready::<D, TAGS>(alloc, &mut disk, name, &line, catalogue) {
+    let ready = make_ready::<D, F, TAGS>(alloc, &mut disk, name, &line, catalogue, compact, faults);
+    match ready {
         Ok(log) => {
             tell_cut(faults, name, &log);
             answer_in(alloc, &mut input, source, disk, sink, log)
@@ -323,25 +394,26 @@ fn answer_over<D: Disk + Drop, S: Source, W: Sink + Drop, F: Write, const TAGS: 
     }
 }
 
-/// Runs a script over a log. Its lines may have tags if that is asked for.
+/// Runs a script over a log. Its lines may have tags, and it is compacted first, if that is asked for.
 fn answer_logged<D: Disk + Drop, S: Source, W: Sink + Drop, F: Write>(
     alloc: Global,
     disk: D,
     name: &str,
     tags: bool,
+    compact: bool,
     source: &mut S,
     sink: W,
     faults: &mut F,
 ) -> (Result<(), OverLogFault>, D, W)
     requires opening { IsOpening (D.past disk) }
     requires fresh { (W.tape sink).bytes ≡ [] }
-    ensures { IsLogServed tags name.now (devices (S.tape source.old) (W.tape sink) (D.past disk))
+    ensures { IsLogServed tags compact name.now (devices (S.tape source.old) (W.tape sink) (D.past disk))
         (devices (S.tape source.new) (W.tape result.2) (D.past result.1)) result.0 }
 {
     if tags {
-        answer_over::<D, S, W, F, true>(alloc, disk, name, source, sink, faults)
+        answer_over::<D, S, W, F, true>(alloc, disk, name, compact, source, sink, faults)
     } else {
-        answer_over::<D, S, W, F, false>(alloc, disk, name, source, sink, faults)
+        answer_over::<D, S, W, F, false>(alloc, disk, name, compact, source, sink, faults)
     }
 }
 
@@ -351,16 +423,19 @@ pub(crate) fn serve_logged<D: Disk + Drop, S: Source, W: Sink + Drop, F: Write>(
     disk: D,
     name: &str,
     tags: bool,
+    compact: bool,
     source: &mut S,
     sink: W,
     faults: &mut F,
 ) -> (u8, D, W)
     requires opening { IsOpening (D.past disk) }
     requires fresh { (W.tape sink).bytes ≡ [] }
-    ensures { (outcome : _) × IsLogServed tags name.now (devices (S.tape source.old) (W.tape sink) (D.past disk))
+    ensures { (outcome : _) × IsLogServed tags compact name.now (devices (S.tape source.old) (W.tape sink) (D.past disk))
         (devices (S.tape source.new) (W.tape result.2) (D.past result.1)) outcome × (result.0 ≡ over_log_exit outcome) }
 {
-    let (outcome, disk, sink) = answer_logged(alloc, disk, name, tags, source, sink, faults);
+    let (outcome, disk, sink) = answer_logged(
+        alloc, disk, name, tags, compact, source, sink, faults,
+    );
     let status = match outcome {
         Ok(()) => DONE,
         Err(fault) => fault.end(faults),

@@ -166,8 +166,8 @@ pub fn serve<
             let status = serve_script(alloc, source, &mut sink, faults);
             (status, disk, sink)
         }
-        Ok(Arguments::LoggedScript { log, tags }) => {
-            serve_logged(alloc, disk, log, tags, source, sink, faults)
+        Ok(Arguments::LoggedScript { log, tags, compact }) => {
+            serve_logged(alloc, disk, log, tags, compact, source, sink, faults)
         }
         Ok(Arguments::Run { workers }) => {
             let status = serve_run(rt, workers, source, &mut sink, faults);

@@ -13,6 +13,7 @@ use op_log::Book as BookOver;
 use read_copies::{RepositoryState as RepositoryStateOver, StatusCounts as StatusCountsOver};
 pub use scripts::{answer_script, run_script};
 pub use seq_repository::Repository;
+use seq_repository::Restored;
 use sessions::Desk as DeskOver;
 
 /// A repository of at most `LIMIT` operations with its log ([`op_log::Book`]).
@@ -36,6 +37,9 @@ pub type SessionPort<'a, R, N> = SessionPortOver<'a, R, N, Repository<1_000_000>
 /// The engine of a script over a log, whose lines have tags or not
 /// ([`logged_script::ScriptEngine`]).
 pub type ScriptEngine<const TAGS: bool> = ScriptEngineOver<Repository<4_294_967_296>, TAGS>;
+
+/// The rows from which the repository of a log is restored ([`seq_repository::Restored`]).
+pub type LogRows = Restored<4_294_967_296>;
 
 /// A log that was restored, with its engine ([`logged_script::RestoredLog`]).
 pub type RestoredLog<const TAGS: bool> = RestoredLogOver<Repository<4_294_967_296>, TAGS>;

@@ -1,13 +1,13 @@
 -- A file is sealed at no moment before its run seals it.
-use Rattle.std.proofs.Common.{◌≡◌, ◌⊎◌, inl, inr, ⊎_elim, ℕ, ◌+◌, ◌<◌, ◌≤◌, take, drop, List, [], ◌∷◌, ◌++◌, length, Bool, true, false, refl, sym, ◌∙◌, ap, subst, arith, append_assoc, length-append}
+use Rattle.std.proofs.Common.{◌≡◌, ◌⊎◌, inl, inr, ⊎_elim, ℕ, ◌+◌, ◌<◌, take, drop, List, [], ◌∷◌, ◌++◌, length, Bool, true, false, refl, sym, ◌∙◌, ap, subst, arith, append_assoc, length-append}
 use Rattle.std.specs.Prelude.{◌==◌, ◌&&◌, nat_lt, if◌then◌else◌, Result, Ok, Err, OnOk, OnErr}
 use Rattle.std.proofs.lemmas.List.{append-nil}
 use Rattle.log_host.specs.Host.{Outcomes, Holds, Torn}
 use Rattle.log_host.specs.declared.host.HostFault.{HostFault}
 use Rattle.durable_log.specs.declared.link.Link.{Link}
-use Rattle.durable_log.specs.Format.{LogRecord, Column, Absent, Number, column_of, max_batch, link_after, links_after, Next, End, Damaged, Found, Behind, Reading, whole, with_record, then_read, read, prepended, fits, found, record_by, record_in, with_reply_check, with_check, with_number, with_again, with_length, after_front, after_shut, after_gate, next, blocks, shut, seal, is_open, frame}
-use Rattle.durable_log.specs.Files.{opening, link_behind, StandsFor, Holding}
-use Rattle.durable_log.specs.Logs.{AreSmall, records_by, records_of, link_of, IsAtRest, IsBatch, IsSealed, IsSettled, IsUnsealed, Unsealed, ButForGate, Same}
+use Rattle.durable_log.specs.Format.{LogRecord, Column, Absent, Number, column_of, max_batch, link_after, Next, End, Damaged, Found, Behind, Reading, with_record, then_read, read, fits, found, record_by, record_in, with_reply_check, with_check, with_number, with_again, with_length, after_front, after_shut, after_gate, next, blocks, shut, seal, is_open, frame}
+use Rattle.durable_log.specs.Files.{link_behind, StandsFor, Holding}
+use Rattle.durable_log.specs.Logs.{records_by, records_of, link_of, IsAtRest, IsBatch, IsSealed, IsSettled, IsUnsealed, Unsealed, ButForGate, Same}
 use Rattle.durable_log.specs.declared.log.Log.{Log}
 use Rattle.durable_log.proofs.Links.{behind-fits, next-fits}
 use Rattle.durable_log.proofs.Blocks.{read-block, read-blocks, read-step, read-end, read-last, next-few, next-not_open}
@@ -15,7 +15,6 @@ use Rattle.durable_log.proofs.Fronts.{holds-more, stands-alone, records-stand}
 use Rattle.durable_log.proofs.One.{open-first}
 use Rattle.durable_log.proofs.Crash.{torn-behind, torn-gate, held-gate}
 use Rattle.durable_log.proofs.Batches.{rest-length, rest-stands}
-use Rattle.durable_log.proofs.Waiting.{settled-leaves}
 
 -- Only the end of a file is read as one
 

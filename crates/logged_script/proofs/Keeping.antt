@@ -7,7 +7,7 @@ use Rattle.batch_history.specs.Legal.{most_numbered}
 use Rattle.batch_history.specs.NextRows.{rows_after, rows_with, without}
 use Rattle.batch_history.specs.Operations.{purged_by}
 use Rattle.batch_history.specs.Replies.{is_nothing, reply_by}
-use Rattle.batch_history.specs.Rows.{Rows, rows}
+use Rattle.batch_history.specs.Rows.{Rows}
 use Rattle.batch_history.specs.declared.call.Call.{Call}
 use Rattle.batch_history.specs.declared.call.Entry.{Entry}
 use Rattle.batch_history.specs.declared.call.Reply.{Reply}
@@ -19,10 +19,10 @@ use Rattle.script_text.specs.Replies.{bad_line_text}
 use Rattle.script_text.specs.declared.command.Command.{Command}
 use Rattle.script_text.specs.declared.command.Command.TheVariants.{BadLine, TextTooLong, Act, Ask}
 use Rattle.script_engine.specs.ByRows.{command_at, line_rows_by, line_text_by, rows_by, rows_past}
-use Rattle.script_engine.specs.Script.{begin, catalogue_at}
-use Rattle.script_log.specs.Replays.{replayed}
+use Rattle.log_base.specs.Bases.{rows_of_base}
+use Rattle.script_engine.specs.Script.{catalogue_at}
 use Rattle.script_log.specs.Runs.{History as LogHistory, after}
-use Rattle.logged_script.specs.Histories.{is_kept, jobs_at, jobs_read, reply_at, rows_at}
+use Rattle.logged_script.specs.Histories.{is_kept, jobs_read, reply_at, rows_at, rows_begun}
 use Rattle.logged_script.specs.Tags.{command_in, command_of, commands_in}
 
 -- one line more behind lines
@@ -76,9 +76,9 @@ commands-push true lines line = map-append command_of lines (line ∷ [])
 commands-push false lines line = refl
 
 after_by : (tags : Bool) (h : LogHistory) (line : List ℕ) (kept : Bool) → is_kept tags h line ≡ kept
-    → rows_at tags (cond kept record { catalogue = h.catalogue; lines = h.lines ++ line ∷ [] } h) ≡ line_rows_by most_numbered (rows_at tags h) (command_in tags line)
+    → rows_at tags (cond kept record h { lines = h.lines ++ line ∷ [] } h) ≡ line_rows_by most_numbered (rows_at tags h) (command_in tags line)
 after_by tags h line true is =
-    let first : Rows = rows (begin (jobs_at h)) in
+    let first : Rows = rows_begun h in
     ap (rows_past most_numbered first) (commands-push tags h.lines line) ∙ past-push most_numbered first (commands_in tags h.lines) (command_in tags line)
 after_by tags h line false is = sym (unchanged most_numbered (rows_at tags h) (command_in tags line) is)
 
@@ -121,7 +121,7 @@ long_line tags h line long =
     let both = long_after most_numbered (rows_at tags h) line long in
     let next : line_rows_by most_numbered (rows_at tags h) (command_in tags line) ≡ rows_at tags h = ap (line_rows_by most_numbered (rows_at tags h)) is ∙ both.1 in
     let kept : is_kept tags h line ≡ false = ap (λ (next : Rows). longer (rows_at tags h) next) next ∙ not_less (rows_at tags h).count in
-    (ap (line_text_by most_numbered (rows_at tags h)) is ∙ both.0, kept, ap (λ (b : Bool). cond b record { catalogue = h.catalogue; lines = h.lines ++ line ∷ [] } h) kept)
+    (ap (line_text_by most_numbered (rows_at tags h)) is ∙ both.0, kept, ap (λ (b : Bool). cond b record h { lines = h.lines ++ line ∷ [] } h) kept)
 
 -- what is equal gives the same, at a limit that is the greatest
 pub at_limit : {A : Type 0} (f : ℕ → Rows → List ℕ → A) (limit : ℕ) (r now : Rows) (line command : List ℕ) → limit ≡ most_numbered → r ≡ now → line ≡ command
@@ -130,13 +130,13 @@ at_limit f limit r now line command is are same =
     ap (λ (l : ℕ). f l r line) is ∙ (ap (λ (o : Rows). f most_numbered o line) are ∙ ap (f most_numbered now) same)
 
 -- before the first line
-no-commands : (tags : Bool) → commands_in tags [] ≡ []
+pub no-commands : (tags : Bool) → commands_in tags [] ≡ []
 no-commands true = refl
 no-commands false = refl
 
-pub fresh : (tags : Bool) (r : Rows) (catalogue : List JobTree) (line : List ℕ) → catalogue_at line ≡ Ok catalogue → r ≡ rows (begin catalogue)
-    → r ≡ rows_at tags (replayed line [])
-fresh tags r catalogue line is are =
+pub fresh : (tags : Bool) (r : Rows) (catalogue : List JobTree) (line : List ℕ) (base : List (List ℕ)) → catalogue_at line ≡ Ok catalogue → r ≡ rows_of_base catalogue base
+    → r ≡ rows_at tags record { catalogue = line; base = base; lines = [] }
+fresh tags r catalogue line base is are =
     are
-    ∙ (ap (λ (read : Result (List JobTree) ReadFault). rows (begin (jobs_read read))) (sym is)
-    ∙ ap (rows_past most_numbered (rows (begin (jobs_read (catalogue_at line))))) (sym (no-commands tags)))
+    ∙ (ap (λ (read : Result (List JobTree) ReadFault). rows_of_base (jobs_read read) base) (sym is)
+    ∙ ap (rows_past most_numbered (rows_of_base (jobs_read (catalogue_at line)) base)) (sym (no-commands tags)))

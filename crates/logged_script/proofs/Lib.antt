@@ -5,4 +5,6 @@ pub mod Standing
 pub mod Tagging
 pub mod Opened
 pub mod Widening
+pub mod Based
+pub mod Compacting
 pub mod Sealed

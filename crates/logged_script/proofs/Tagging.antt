@@ -46,12 +46,12 @@ tagged-command tag command is fits =
 
 -- a history without its tags
 abbrev pub without_tags : History → History
-without_tags h = record { catalogue = h.catalogue; lines = map command_of h.lines }
+without_tags h = record h { lines = map command_of h.lines }
 
 after_by : (h : History) (line : List ℕ) (kept : Bool)
-    → without_tags (cond kept record { catalogue = h.catalogue; lines = h.lines ++ line ∷ [] } h)
-    ≡ cond kept record { catalogue = h.catalogue; lines = map command_of h.lines ++ command_of line ∷ [] } (without_tags h)
-after_by h line true = ap (λ (lines : List (List ℕ)). record { catalogue = h.catalogue; lines = lines }) (map-append command_of h.lines (line ∷ []))
+    → without_tags (cond kept record h { lines = h.lines ++ line ∷ [] } h)
+    ≡ cond kept record h { lines = map command_of h.lines ++ command_of line ∷ [] } (without_tags h)
+after_by h line true = ap (λ (lines : List (List ℕ)). record h { lines = lines }) (map-append command_of h.lines (line ∷ []))
 after_by h line false = refl
 
 -- one line more

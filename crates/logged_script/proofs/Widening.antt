@@ -23,7 +23,7 @@ grown-keeps kept given (more, is) limit log legal =
     subst (λ (g : List JobTree). IsLegal limit (history g log) × (rows (history g log) ≡ record (rows (history kept log)) { catalogue = g })) (sym is)
     (legal_wider limit kept more log legal, rows_wider limit kept more log legal)
 
-same-jobs : (read : Result (List JobTree) ReadFault) (a b : List JobTree) → read ≡ Ok a → read ≡ Ok b → a ≡ b
+pub same-jobs : (read : Result (List JobTree) ReadFault) (a b : List JobTree) → read ≡ Ok a → read ≡ Ok b → a ≡ b
 same-jobs read a b is was = cc (sym is ∙ was)
 
 -- so does that of a log that goes on

@@ -1,5 +1,5 @@
 -- The faults of a log that is not restored.
-use Rattle.std.specs.Prelude.{ℕ, ◌≡◌, ◌⊎◌, ◌<◌, List, [], length, Bool, true, false, Ok, Err}
+use Rattle.std.specs.Prelude.{ℕ, ◌≡◌, ◌⊎◌, ◌<◌, ◌+◌, List, [], length, Bool, true, false, Ok, Err}
 use Rattle.jsl_model.specs.Jobs.{JobTree}
 use Rattle.jsl_json.specs.declared.fault.ReadFault.{ReadFault}
 use Rattle.catalogue_growth.specs.Growth.{IsGrown, IsFirstOther}
@@ -7,12 +7,15 @@ use Rattle.durable_log.specs.Format.{LogRecord}
 use Rattle.durable_log.specs.Files.{StandsFor, opening, Foreign as ForeignFile, Later as LaterFile}
 use Rattle.durable_log.specs.Logs.{records_of, IsDamagedAt}
 use Rattle.script_engine.specs.Script.{catalogue_at}
-use Rattle.script_log.specs.Runs.{last_catalogue}
+use Rattle.batch_history.specs.Legal.{most_numbered}
+use Rattle.log_base.specs.Bases.{IsBase, IsBadBase}
+use Rattle.script_log.specs.Bases.{HasBaseInPlace, IsOutOfPlace}
+use Rattle.script_log.specs.Runs.{base_lines, last_catalogue}
 use Rattle.script_log.specs.Catalogues.{BeginsWithCatalogue}
 use Rattle.script_log.specs.Replays.{IsOtherReply}
 use Rattle.logged_script.specs.Histories.{is_kept, reply_at}
 use Rattle.logged_script.specs.declared.fault.LogFault.{LogFault}
-use Rattle.logged_script.specs.declared.fault.LogFault.TheVariants.{InUse, Foreign, Later, Damaged, OtherCatalogue, OtherReply}
+use Rattle.logged_script.specs.declared.fault.LogFault.TheVariants.{InUse, Foreign, Later, Damaged, OtherCatalogue, BadBase, OtherReply}
 use Rattle.logged_script.specs.declared.opening.OpeningFault.{OpeningFault}
 use Rattle.logged_script.specs.declared.opening.OpeningFault.TheVariants.{Refused, OutOfMemory}
 
@@ -32,6 +35,7 @@ IsCatalogueFault records (Refused Foreign) = IsNoScriptLog records
 IsCatalogueFault records (Refused Later) = ⊥
 IsCatalogueFault records (Refused (Damaged number byte)) = ⊥
 IsCatalogueFault records (Refused (OtherCatalogue job)) = ⊥
+IsCatalogueFault records (Refused (BadBase number)) = ⊥
 IsCatalogueFault records (Refused (OtherReply number)) = ⊥
 IsCatalogueFault records OutOfMemory = Unit {0}
 
@@ -52,6 +56,7 @@ module _ (records : List LogRecord) (given : List JobTree) where
   IsGrowthFault (Refused Later) = ⊥
   IsGrowthFault (Refused (Damaged number byte)) = ⊥
   IsGrowthFault (Refused (OtherCatalogue job)) = IsOtherJob records given job
+  IsGrowthFault (Refused (BadBase number)) = ⊥
   IsGrowthFault (Refused (OtherReply number)) = ⊥
   IsGrowthFault OutOfMemory = Unit {0}
 
@@ -71,12 +76,43 @@ pub record HasOtherCatalogue (file line : List ℕ) (job : ℕ) : Type 0 where
   pub is_given : catalogue_at line ≡ Ok given
   pub other : IsOtherJob (records_of file) given job
 
--- a whole log whose catalogue goes on with that of the line: the record with this number is the first that is
--- not kept again with a reply of its check
+-- the base stands behind the first catalogue and nowhere else, and is one over a catalogue with these jobs
+pub record HasBase (records : List LogRecord) (given : List JobTree) : Type 0 where
+  pub in_place : HasBaseInPlace records
+  pub is_base : IsBase most_numbered given (base_lines records)
+
+-- the record with this number is the first of the base that stands elsewhere; or the base is in its place, and the record's line
+-- is the first one that may not stand there
+abbrev pub IsBadBaseAt : List LogRecord → List JobTree → ℕ → Type 0
+IsBadBaseAt records given number =
+    IsOutOfPlace records number
+    ⊎ (HasBaseInPlace records × ((place : ℕ) × (number ≡ place + 1) × IsBadBase most_numbered given (base_lines records) place))
+
+-- the fault of a log without the repository of its base
+abbrev pub IsNoBase : List LogRecord → List JobTree → OpeningFault → Type 0
+IsNoBase records given (Refused InUse) = ⊥
+IsNoBase records given (Refused Foreign) = ⊥
+IsNoBase records given (Refused Later) = ⊥
+IsNoBase records given (Refused (Damaged number byte)) = ⊥
+IsNoBase records given (Refused (OtherCatalogue job)) = ⊥
+IsNoBase records given (Refused (BadBase number)) = IsBadBaseAt records given number
+IsNoBase records given (Refused (OtherReply number)) = ⊥
+IsNoBase records given OutOfMemory = Unit {0}
+
+-- a whole log whose catalogue goes on with that of the line: the record with this number is the first that can't be of its base
+pub record HasBadBase (file line : List ℕ) (number : ℕ) : Type 0 where
+  pub whole : StandsFor (records_of file) file
+  pub grown : Bool
+  pub goes_on : GoesOnFrom (records_of file) line grown
+  pub bad : IsBadBaseAt (records_of file) goes_on.given number
+
+-- a whole log whose catalogue goes on with that of the line, with a base: the record with this number is the first that is not
+-- kept again with a reply of its check
 pub record HasOtherReply (tags : Bool) (file line : List ℕ) (number : ℕ) : Type 0 where
   pub whole : StandsFor (records_of file) file
   pub grown : Bool
   pub goes_on : GoesOnFrom (records_of file) line grown
+  pub base : HasBase (records_of file) goes_on.given
   pub other : IsOtherReply (is_kept tags) (reply_at tags) line (records_of file) number
 
 -- no script made the file: it is no log, or a whole log whose catalogue can't be read
@@ -85,7 +121,7 @@ IsForeign file = (opening file ≡ ForeignFile) ⊎ (StandsFor (records_of file)
 
 module _ (tags : Bool) (file line : List ℕ) where
   -- THE FAULT OF A REFUSED LOG, whose lines have tags or not, by its file and the line of the given catalogue. A
-  -- fault is the first of the order Foreign, Later, Damaged, Foreign, OtherCatalogue, OtherReply: each says that
+  -- fault is the first of the order Foreign, Later, Damaged, Foreign, OtherCatalogue, BadBase, OtherReply: each says that
   -- no earlier one is there
   abbrev pub HasLogFault : LogFault → Type 0
   HasLogFault InUse = ⊥
@@ -93,6 +129,7 @@ module _ (tags : Bool) (file line : List ℕ) where
   HasLogFault Later = opening file ≡ LaterFile
   HasLogFault (Damaged number byte) = IsDamagedAt file number byte
   HasLogFault (OtherCatalogue job) = HasOtherCatalogue file line job
+  HasLogFault (BadBase number) = HasBadBase file line number
   HasLogFault (OtherReply number) = HasOtherReply tags file line number
 
 -- the fault of a log that was not restored

@@ -2,10 +2,11 @@
 use Rattle.std.specs.Prelude.{ℕ, ◌≡◌, nat_lt, List, [], Bool, Result, Ok, Err, box_value}
 use Rattle.jsl_model.specs.Jobs.{JobTree}
 use Rattle.jsl_json.specs.declared.fault.ReadFault.{ReadFault}
-use Rattle.batch_history.specs.Legal.{most_numbered}
+use Rattle.batch_history.specs.Legal.{IsLegal, most_numbered}
 use Rattle.batch_history.specs.Rows.{History, Rows, rows}
 use Rattle.script_engine.specs.ByRows.{line_rows_by, line_text_by, rows_past}
-use Rattle.script_engine.specs.Script.{begin, catalogue_at, lines_history}
+use Rattle.script_engine.specs.Script.{catalogue_at, lines_history}
+use Rattle.log_base.specs.Bases.{rows_of_base}
 use Rattle.script_log.specs.Runs.{History as LogHistory}
 use Rattle.logged_script.specs.Tags.{command_in, commands_in}
 use Rattle.logged_script.specs.declared.engine.ScriptEngine.{ScriptEngine}
@@ -19,14 +20,23 @@ jobs_read (Err fault) = []
 abbrev pub jobs_at : LogHistory → List JobTree
 jobs_at h = jobs_read (catalogue_at h.catalogue)
 
--- THE HISTORY OF A LOG, whose lines have tags or not: its catalogue, and the operations of its lines' commands, of which
--- there are at most 4,294,967,296
-abbrev pub history_at : Bool → LogHistory → History
-history_at tags h = lines_history most_numbered (begin (jobs_at h)) (commands_in tags h.lines)
+-- the rows with which a log begins: those of its base
+abbrev pub rows_begun : LogHistory → Rows
+rows_begun h = rows_of_base (jobs_at h) h.base
 
--- the rows of a log: those of its history
+-- a legal history with the rows of a log's base. Without a base the history without operations is one
+pub record IsOfBase (h : LogHistory) (g : History) : Type 0 where
+  pub legal : IsLegal most_numbered g
+  pub rows_are : rows_begun h ≡ rows g
+
+-- A HISTORY OF A LOG, whose lines have tags or not: one with the rows of its base, and behind it the operations of its lines'
+-- commands, of which there are at most 4,294,967,296 in all
+abbrev pub history_at : Bool → LogHistory → History → History
+history_at tags h g = lines_history most_numbered g (commands_in tags h.lines)
+
+-- the rows of a log: those of its histories
 abbrev pub rows_at : Bool → LogHistory → Rows
-rows_at tags h = rows_past most_numbered (rows (begin (jobs_at h))) (commands_in tags h.lines)
+rows_at tags h = rows_past most_numbered (rows_begun h) (commands_in tags h.lines)
 
 -- whether a line is logged: whether there is one more operation after it
 abbrev pub is_kept : Bool → LogHistory → List ℕ → Bool

@@ -4,3 +4,4 @@ pub mod Histories
 pub mod Faults
 pub mod Openings
 pub mod Logged
+pub mod Compactions

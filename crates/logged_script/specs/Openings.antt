@@ -11,12 +11,12 @@ use Rattle.durable_log.specs.Files.{StandsFor}
 use Rattle.durable_log.specs.Logs.{records_of, IsAtRest, IsSealed, EndsAt}
 use Rattle.durable_log.specs.declared.reading.ReadFault.{ReadFault}
 use Rattle.durable_log.specs.declared.reading.ReadFault.TheVariants as reads
-use Rattle.script_log.specs.Runs.{catalogue_record}
-use Rattle.script_log.specs.Replays.{AreAlike, replayed}
+use Rattle.script_log.specs.Runs.{History as LogHistory, catalogue_record}
+use Rattle.script_log.specs.Replays.{AreAlike, begun}
 use Rattle.script_log.specs.declared.replays.ReplayFault.{ReplayFault}
 use Rattle.script_log.specs.declared.replays.ReplayFault.TheVariants as replays
-use Rattle.logged_script.specs.Histories.{is_kept, reply_at}
-use Rattle.logged_script.specs.Faults.{GoesOnFrom}
+use Rattle.logged_script.specs.Histories.{IsOfBase, is_kept, reply_at}
+use Rattle.logged_script.specs.Faults.{GoesOnFrom, HasBase}
 use Rattle.logged_script.specs.declared.fault.LogFault.TheVariants.{Foreign, Later, Damaged, OtherReply}
 use Rattle.logged_script.specs.declared.opening.OpeningFault.{OpeningFault}
 use Rattle.logged_script.specs.declared.opening.OpeningFault.TheVariants.{Refused, OutOfMemory}
@@ -25,20 +25,25 @@ use Rattle.logged_script.specs.declared.opening.OpeningFault.TheVariants.{Refuse
 abbrev pub records_begun : List LogRecord → List ℕ → Bool → List LogRecord
 records_begun records line grown = if grown then records ++ catalogue_record line ∷ [] else records
 
--- A LOG GOES ON: the file stands for its records. Their last catalogue has the first jobs of the given one, and
--- each kept line is kept again with a reply of its check. The given catalogue becomes one more record exactly
--- if it has more jobs
+-- A LOG GOES ON: the file stands for its records. Their last catalogue has the first jobs of the given one, their base is one
+-- over it, and each kept line is kept again with a reply of its check. The given catalogue becomes one more record exactly if it
+-- has more jobs
 pub record IsBegun (tags : Bool) (file line : List ℕ) (now : List LogRecord) : Type 0 where
   pub whole : StandsFor (records_of file) file
   pub grown : Bool
   pub goes_on : GoesOnFrom (records_of file) line grown
-  pub alike : AreAlike (is_kept tags) (reply_at tags) (replayed line []) (records_of file)
+  pub base : HasBase (records_of file) goes_on.given
+  pub alike : AreAlike (is_kept tags) (reply_at tags) (begun line (records_of file)) (records_of file)
   pub records : now ≡ records_begun (records_of file) line grown
 
 -- each legal history over the one catalogue is legal over the other, with equal rows
 abbrev pub KeepsHistories : List JobTree → List JobTree → Type 0
 KeepsHistories kept given = (limit : ℕ) (log : List Entry) → IsLegal limit (history kept log)
     → IsLegal limit (history given log) × (rows (history given log) ≡ record (rows (history kept log)) { catalogue = given })
+
+-- each history over the one catalogue with the rows of the one base is over the other catalogue one with the rows of the other base
+abbrev pub KeepsBase : List JobTree → List JobTree → LogHistory → LogHistory → Type 0
+KeepsBase kept given old new = (log : List Entry) → IsOfBase old (history kept log) → IsOfBase new (history given log)
 
 -- the bytes that are cut off: those after the records, and none if the file is at rest or sealed
 pub record IsCutOff (file cut : List ℕ) : Type 0 where

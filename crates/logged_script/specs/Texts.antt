@@ -3,7 +3,7 @@ use Rattle.std.specs.Prelude.{ℕ, List, codes}
 use Rattle.serde_json.specs.Data.{Data, string, object, member, no_members}
 use Rattle.script_text.specs.Written.{one, count, line_of}
 use Rattle.logged_script.specs.declared.fault.LogFault.{LogFault}
-use Rattle.logged_script.specs.declared.fault.LogFault.TheVariants.{InUse, Foreign, Later, Damaged, OtherCatalogue, OtherReply}
+use Rattle.logged_script.specs.declared.fault.LogFault.TheVariants.{InUse, Foreign, Later, Damaged, OtherCatalogue, BadBase, OtherReply}
 
 -- the name that a fault prints as
 abbrev pub log_fault_name : LogFault → List ℕ
@@ -12,6 +12,7 @@ log_fault_name Foreign = codes "LogForeign"
 log_fault_name Later = codes "LogLater"
 log_fault_name (Damaged number byte) = codes "LogDamaged"
 log_fault_name (OtherCatalogue job) = codes "LogOtherCatalogue"
+log_fault_name (BadBase number) = codes "LogBadBase"
 log_fault_name (OtherReply number) = codes "LogOtherReply"
 
 -- a fault by its name alone
@@ -38,6 +39,7 @@ log_fault_data Foreign = named Foreign
 log_fault_data Later = named Later
 log_fault_data (Damaged number byte) = damaged number byte
 log_fault_data (OtherCatalogue job) = numbered (OtherCatalogue job) (codes "job") job
+log_fault_data (BadBase number) = numbered (BadBase number) (codes "record") number
 log_fault_data (OtherReply number) = numbered (OtherReply number) (codes "record") number
 
 -- the line of a fault

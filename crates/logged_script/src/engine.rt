@@ -1,15 +1,19 @@
 // A job repository that replies to the lines of a script.
-ghost use Rattle.std.specs.Prelude.{◌≡◌, [], List, ℕ, Ok, IfOk};
+ghost use Rattle.std.specs.Prelude.{◌≡◌, [], List, ℕ, length, map, box_value, Ok, IfOk, IfErr, OnOk};
 ghost use Rattle.batch_history.specs.Legal.{most_numbered};
+ghost use Rattle.durable_log.specs.Shown.{record_shown};
+ghost use Rattle.log_base.specs.Bases.{IsBase, IsBaseFault, IsPlacedBelow};
 ghost use Rattle.script_engine.specs.Script.{catalogue_at};
-ghost use Rattle.script_log.specs.Replays.{replayed};
+ghost use Rattle.script_log.specs.Bases.{lines_of_records};
 ghost use Rattle.logged_script.specs.Histories.{Answers, is_kept, reply_at};
 
 use crate::tags::command_in;
 use batch_ids::OutOfMemory;
+use durable_log::Record;
 use jsl_model::Catalogue;
-use row_repository::RowRepository;
-use script_engine::{answer_whole, bad_line_text, boxed_repository};
+use log_base::{BaseFault, restored_base};
+use row_repository::{RowRepository, RowRestoration};
+use script_engine::{answer_whole, bad_line_text};
 use script_lines::MAX_LINE;
 use script_log::{Answered, Engine};
 use script_text::CommandReader;
@@ -32,13 +36,59 @@ impl<J: RowRepository, const TAGS: bool> ScriptEngine<J, TAGS> {
     /// Returns `OutOfMemory` if memory is refused. The catalogue is dropped.
     pub fn new(alloc: Global, catalogue: Catalogue) -> Result<ScriptEngine<J, TAGS>, OutOfMemory>
         requires { J.limit ≡ most_numbered }
-        ensures { IfOk result (λ engine. (line : List ℕ) → catalogue_at line ≡ Ok catalogue → Answers TAGS J.limit J.rows engine (replayed line [])) }
+        ensures { IfOk result (λ engine. (line : List ℕ) → catalogue_at line ≡ Ok catalogue → Answers TAGS J.limit J.rows engine record { catalogue = line; base = []; lines = [] }) }
     {
-        let repository = boxed_repository(alloc, catalogue)?;
-        Ok(ScriptEngine {
-            commands: CommandReader::new(alloc),
-            repository,
-        })
+        let repository = J::new(alloc, catalogue)?;
+        ScriptEngine::over(alloc, repository)
+    }
+
+    /// Restores the repository of a base over this catalogue ([`restored_base`]). `B` is the type that
+    /// restores it.
+    ///
+    /// # Errors
+    ///
+    /// - `BadLine` with the place of the first line that may not stand in the base.
+    /// - `OutOfMemory` if memory is refused.
+    pub fn restored<B: RowRestoration<J>>(
+        alloc: Global,
+        catalogue: Catalogue,
+        base: &[Record<'_>],
+    ) -> Result<ScriptEngine<J, TAGS>, BaseFault>
+        requires { J.limit ≡ most_numbered }
+        ensures base { OnOk result (IsBase most_numbered catalogue (lines_of_records (map record_shown base.now))) }
+        ensures answers { IfOk result (λ engine. (line : List ℕ) → catalogue_at line ≡ Ok catalogue
+            → Answers TAGS J.limit J.rows engine record { catalogue = line; base = lines_of_records (map record_shown base.now); lines = [] }) }
+        ensures fault { IfErr result (IsBaseFault most_numbered catalogue (lines_of_records (map record_shown base.now))) }
+        ensures within { IfErr result (IsPlacedBelow (length base.now)) }
+    {
+        let repository = restored_base::<J, B>(alloc, catalogue, base)?;
+        match ScriptEngine::over(alloc, repository) {
+            Ok(engine) => Ok(engine),
+            Err(_) => Err(BaseFault::OutOfMemory),
+        }
+    }
+
+    // Returns the repository.
+    pub(crate) fn repository(&self) -> &J
+        ensures { result.now ≡ box_value self.now.repository }
+    {
+        &self.repository
+    }
+
+    // Makes the engine of a repository.
+    fn over(alloc: Global, repository: J) -> Result<ScriptEngine<J, TAGS>, OutOfMemory>
+        ensures { IfOk result (λ engine. box_value engine.repository ≡ repository) }
+    {
+        match Box::new(alloc, repository) {
+            Ok(repository) => Ok(ScriptEngine {
+                commands: CommandReader::new(alloc),
+                repository,
+            }),
+            Err(refused) => {
+                drop(refused);
+                Err(AllocError)
+            }
+        }
     }
 }
 

@@ -26,6 +26,13 @@ pub enum LogFault {
         /// The number of the first job that differs. Jobs count from 0.
         job: usize,
     },
+    /// A record of the base stands elsewhere than right behind the first catalogue, or its line is
+    /// none that may stand there: no row, a row out of order, one that breaks what a repository
+    /// keeps.
+    BadBase {
+        /// The number of the first such record. Records count from 0.
+        number: usize,
+    },
     /// The line of a record is not accepted any more, or its reply has another check than the one
     /// in the record.
     OtherReply {
@@ -45,6 +52,7 @@ impl LogFault {
             LogFault::Later => "LogLater",
             LogFault::Damaged { .. } => "LogDamaged",
             LogFault::OtherCatalogue { .. } => "LogOtherCatalogue",
+            LogFault::BadBase { .. } => "LogBadBase",
             LogFault::OtherReply { .. } => "LogOtherReply",
         }
     }

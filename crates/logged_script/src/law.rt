@@ -1,26 +1,32 @@
 // The history for which a log stands.
-ghost use Rattle.std.specs.Prelude.{◌≡◌, Bool, List, ℕ, length, nat_lt};
+ghost use Rattle.std.specs.Prelude.{◌≡◌, Bool, List, [], ℕ, length, nat_lt};
 ghost use Rattle.batch_history.specs.Legal.{IsLegal, most_numbered};
-ghost use Rattle.batch_history.specs.Rows.{rows};
+ghost use Rattle.batch_history.specs.Rows.{History, rows};
 ghost use Rattle.script_engine.specs.ByRows.{line_text_by};
-ghost use Rattle.script_engine.specs.Script.{line_history};
+ghost use Rattle.script_engine.specs.Script.{begin, line_history};
 ghost use Rattle.script_log.specs.Runs.{History as LogHistory};
-ghost use Rattle.logged_script.specs.Histories.{history_at, is_kept, reply_at, rows_at};
+ghost use Rattle.logged_script.specs.Histories.{IsOfBase, history_at, is_kept, jobs_at, reply_at, rows_at};
 ghost use Rattle.logged_script.specs.Tags.{command_in};
 
-/// A log stands for a legal history of the job repository, with or without tags:
+/// A log stands for legal histories of the job repository, with or without tags: for each one with
+/// the rows of its base, and behind it the operations of its lines' commands. A log without a base
+/// stands for these operations alone.
 ///
-/// - Its rows are those of this history.
+/// - Its rows are those of each such history.
 /// - A line is logged exactly if the history has one more operation after its command.
-/// - The reply to a line is the one that is due to its command after this history.
+/// - The reply to a line is the one that is due to its command after each such history.
 ///
 /// The function does nothing: its contract is the law, of all logs.
 pub fn logs_stand_for_legal_histories()
-    ensures legal { (tags : Bool) (h : LogHistory) → IsLegal most_numbered (history_at tags h) }
-    ensures rows { (tags : Bool) (h : LogHistory) → rows_at tags h ≡ rows (history_at tags h) }
-    ensures kept { (tags : Bool) (h : LogHistory) (line : List ℕ) → is_kept tags h line
-        ≡ nat_lt (length (history_at tags h).log)
-        (length (line_history most_numbered (history_at tags h) (command_in tags line)).log) }
-    ensures reply { (tags : Bool) (h : LogHistory) (line : List ℕ) → reply_at tags h line
-        ≡ line_text_by most_numbered (rows (history_at tags h)) (command_in tags line) }
+    ensures begun { (h : LogHistory) → h.base ≡ [] → IsOfBase h (begin (jobs_at h)) }
+    ensures legal { (tags : Bool) (h : LogHistory) (g : History) → IsOfBase h g
+        → IsLegal most_numbered (history_at tags h g) }
+    ensures rows { (tags : Bool) (h : LogHistory) (g : History) → IsOfBase h g
+        → rows_at tags h ≡ rows (history_at tags h g) }
+    ensures kept { (tags : Bool) (h : LogHistory) (g : History) (line : List ℕ) → IsOfBase h g
+        → is_kept tags h line ≡ nat_lt (length (history_at tags h g).log)
+        (length (line_history most_numbered (history_at tags h g) (command_in tags line)).log) }
+    ensures reply { (tags : Bool) (h : LogHistory) (g : History) (line : List ℕ) → IsOfBase h g
+        → reply_at tags h line
+        ≡ line_text_by most_numbered (rows (history_at tags h g)) (command_in tags line) }
 {}

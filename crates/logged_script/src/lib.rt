@@ -1,8 +1,10 @@
 //! Runs a script over a log on the disk: an engine that is a job repository, the restoring of a log
-//! with its faults, and the run.
+//! from its base and its lines, with its faults, the run, and the compaction of a log.
 #![tactic(auto)]
 
+mod base;
 mod catalogue;
+mod compaction;
 mod engine;
 mod fault;
 mod law;
@@ -12,6 +14,7 @@ mod tags;
 mod text;
 
 pub use catalogue::{catalogue_at, new_log};
+pub use compaction::{CompactionFault, compacted};
 pub use engine::ScriptEngine;
 pub use fault::LogFault;
 pub use law::logs_stand_for_legal_histories;

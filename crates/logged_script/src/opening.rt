@@ -1,5 +1,5 @@
 // Restoring the log of a script: pure functions over the bytes of its file.
-ghost use Rattle.std.specs.Prelude.{◌≡◌, ◌≤◌, ◌^◌, List, [], length, map, false, Ok, IfOk, IfErr, IsTrue};
+ghost use Rattle.std.specs.Prelude.{◌≡◌, ◌≤◌, ◌^◌, List, length, map, false, Ok, IfOk, IfErr, IsTrue};
 ghost use Rattle.batch_history.specs.Legal.{most_numbered};
 ghost use Rattle.durable_log.specs.Files.{StandsFor};
 ghost use Rattle.durable_log.specs.Logs.{records_of, IsRest, Reopens};
@@ -7,19 +7,20 @@ ghost use Rattle.durable_log.specs.Shown.{record_shown, IsEnd};
 ghost use Rattle.jsl_model.specs.Jobs.{JobTree};
 ghost use Rattle.script_engine.specs.Script.{catalogue_at};
 ghost use Rattle.script_log.specs.Runs.{history_of};
-ghost use Rattle.script_log.specs.Replays.{AreAlike, replayed, IsReplayFault};
+ghost use Rattle.script_log.specs.Replays.{AreAlike, begun, replayed, IsReplayFault};
 ghost use Rattle.script_log.specs.declared.replays.ReplayFault.{ReplayFault as WhyNot};
 ghost use Rattle.logged_script.specs.declared.opening.OpeningFault.TheVariants.{OutOfMemory};
-ghost use Rattle.logged_script.specs.Histories.{Answers, is_kept, reply_at};
-ghost use Rattle.logged_script.specs.Faults.{GoesOnFrom, HasCatalogue, IsOpeningFault};
-ghost use Rattle.logged_script.specs.Openings.{IsBegun, KeepsHistories, IsCutOff, records_begun, fault_of_read, fault_of_replay};
+ghost use Rattle.logged_script.specs.Histories.{Answers, is_kept, jobs_at, reply_at};
+ghost use Rattle.logged_script.specs.Faults.{GoesOnFrom, HasBase, HasCatalogue, IsOpeningFault};
+ghost use Rattle.logged_script.specs.Openings.{IsBegun, KeepsBase, KeepsHistories, IsCutOff, records_begun, fault_of_read, fault_of_replay};
 
+use crate::base::engine_of_base;
 use crate::catalogue::has_grown;
 use crate::engine::ScriptEngine;
 use crate::fault::LogFault;
 use durable_log::{CleanLog, End, LogFile, ReadFault, Record, read_log, restored, with_record};
 use jsl_model::Catalogue;
-use row_repository::RowRepository;
+use row_repository::{RowRepository, RowRestoration};
 use script_log::{CATALOGUE_MARK, ReplayFault, replay};
 use std::alloc::{AllocError, Global};
 use std::error::Error;
@@ -100,15 +101,15 @@ fn unanswered(fault: ReplayFault) -> OpeningFault
     }
 }
 
-// Runs the lines of records again, over a fresh engine.
+// Runs the lines of records again, over the engine of their base.
 fn replay_records<J: RowRepository, const TAGS: bool>(
     alloc: Global,
     records: &[Record<'_>],
     mut engine: ScriptEngine<J, TAGS>,
     line: &[u8],
 ) -> Result<ScriptEngine<J, TAGS>, OpeningFault>
-    requires { Answers TAGS J.limit J.rows engine (replayed line.now []) }
-    ensures alike { IfOk result (λ _. AreAlike (is_kept TAGS) (reply_at TAGS) (replayed line.now []) (map record_shown records.now)) }
+    requires { Answers TAGS J.limit J.rows engine (begun line.now (map record_shown records.now)) }
+    ensures alike { IfOk result (λ _. AreAlike (is_kept TAGS) (reply_at TAGS) (begun line.now (map record_shown records.now)) (map record_shown records.now)) }
     ensures answers { IfOk result (λ ran. Answers TAGS J.limit J.rows ran (replayed line.now (map record_shown records.now))) }
     ensures fault { IfErr result (λ fault. (why : WhyNot) × (fault ≡ fault_of_replay why)
         × IsReplayFault (is_kept TAGS) (reply_at TAGS) line.now (map record_shown records.now) why) }
@@ -119,8 +120,8 @@ fn replay_records<J: RowRepository, const TAGS: bool>(
     }
 }
 
-// Reads a log, and runs its lines again.
-fn replay_file<J: RowRepository, const TAGS: bool>(
+// Reads a log, restores its base, and runs its lines again.
+fn replay_file<J: RowRepository, B: RowRestoration<J>, const TAGS: bool>(
     alloc: Global,
     file: &[u8],
     line: &[u8],
@@ -131,7 +132,8 @@ fn replay_file<J: RowRepository, const TAGS: bool>(
     ensures whole { IfOk result (λ _. StandsFor (records_of file.now) file.now) }
     ensures end { IfOk result (λ ran. IsEnd file.now ran.end) }
     ensures goes_on { IfOk result (λ ran. GoesOnFrom (records_of file.now) line.now ran.grown) }
-    ensures alike { IfOk result (λ _. AreAlike (is_kept TAGS) (reply_at TAGS) (replayed line.now []) (records_of file.now)) }
+    ensures base { IfOk result (λ _. HasBase (records_of file.now) catalogue) }
+    ensures alike { IfOk result (λ _. AreAlike (is_kept TAGS) (reply_at TAGS) (begun line.now (records_of file.now)) (records_of file.now)) }
     ensures answers { IfOk result (λ ran. Answers TAGS J.limit J.rows ran.engine (replayed line.now (records_of file.now))) }
     ensures fault { IfErr result (IsOpeningFault TAGS file.now line.now) }
 {
@@ -143,9 +145,9 @@ fn replay_file<J: RowRepository, const TAGS: bool>(
         Ok(grown) => grown,
         Err(fault) => return Err(fault),
     };
-    let engine = match ScriptEngine::new(alloc, catalogue) {
+    let engine = match engine_of_base::<J, B, TAGS>(alloc, &contents.records, catalogue) {
         Ok(engine) => engine,
-        Err(error) => return Err(OpeningFault::from(error)),
+        Err(fault) => return Err(fault),
     };
     match replay_records(alloc, &contents.records, engine, line) {
         Ok(engine) => Ok(Replayed {
@@ -186,18 +188,19 @@ fn new_file(
     Ok(CleanLog { file, cut })
 }
 
-/// Restores the log of a script with this catalogue: reads its file, runs each line of the log
-/// again, and returns the bytes of a new file with the same records and a clean end. If the
-/// catalogue has more jobs than the log's, it is one more record. `line` is the line of the
-/// catalogue. With `TAGS`, the log's lines may have tags ([`command_of`](crate::command_of)). There is
+/// Restores the log of a script with this catalogue: reads its file, restores the repository of its
+/// base by `B`, runs each line of the log again, and returns the bytes of a new file with the same
+/// records and a clean end. If the catalogue has more jobs than the log's, it is one more record.
+/// `line` is the line of the catalogue. With `TAGS`, the log's lines may have tags ([`command_of`](crate::command_of)). There is
 /// no host here: a log that is refused is not touched.
 ///
 /// # Errors
 ///
 /// - `Refused`, with the first fault in this order: `Foreign`, `Later`, `Damaged`; `Foreign` if
-///   record 0 is no catalogue or the last catalogue can't be read; `OtherCatalogue`; `OtherReply`.
+///   record 0 is no catalogue or the last catalogue can't be read; `OtherCatalogue`; `BadBase`;
+///   `OtherReply`.
 /// - `OutOfMemory` if memory is refused, instead of any result.
-pub fn restore<J: RowRepository, const TAGS: bool>(
+pub fn restore<J: RowRepository, B: RowRestoration<J>, const TAGS: bool>(
     alloc: Global,
     file: Vec<u8>,
     line: &[u8],
@@ -207,8 +210,13 @@ pub fn restore<J: RowRepository, const TAGS: bool>(
     requires catalogue { catalogue_at line.now ≡ Ok catalogue }
     ensures begun { IfOk result (λ log. IsBegun TAGS file.items line.now (records_of log.file.bytes.items)) }
 
-    // Each legal history over the log's catalogue is legal over the given one, with equal rows.
+    // Each legal history over the log's catalogue is legal over the given one, with equal rows. One
+    // with the rows of the log's base has those of the base over the given one.
     ensures histories { IfOk result (λ _. (kept : List JobTree) → HasCatalogue (records_of file.items) kept → KeepsHistories kept catalogue) }
+    ensures base { IfOk result (λ log. (kept : List JobTree) → HasCatalogue (records_of file.items) kept → KeepsBase kept catalogue (history_of (records_of file.items)) (history_of (records_of log.file.bytes.items))) }
+
+    // Its last catalogue has the given jobs.
+    ensures jobs { IfOk result (λ log. jobs_at (history_of (records_of log.file.bytes.items)) ≡ catalogue) }
 
     ensures rest { IfOk result (λ log. IsRest log.file.bytes.items log.file.rest) }
     ensures cut { IfOk result (λ log. IsCutOff file.items log.cut.items) }
@@ -216,7 +224,7 @@ pub fn restore<J: RowRepository, const TAGS: bool>(
     ensures answers { IfOk result (λ log. Answers TAGS J.limit J.rows log.engine (history_of (records_of log.file.bytes.items))) }
     ensures fault { IfErr result (IsOpeningFault TAGS file.items line.now) }
 {
-    let ran = match replay_file(alloc, &file, line, catalogue) {
+    let ran = match replay_file::<J, B, TAGS>(alloc, &file, line, catalogue) {
         Ok(ran) => ran,
         Err(fault) => return Err(fault),
     };

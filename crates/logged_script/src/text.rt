@@ -41,6 +41,7 @@ fn fault_members(alloc: Global, fault: LogFault) -> Result<Map<String, Value>, O
             put_number(&mut members, alloc, "record", number)?;
         }
         LogFault::OtherCatalogue { job } => put_number(&mut members, alloc, "job", job)?,
+        LogFault::BadBase { number } => put_number(&mut members, alloc, "record", number)?,
         LogFault::OtherReply { number } => put_number(&mut members, alloc, "record", number)?,
         LogFault::InUse => {}
         LogFault::Foreign => {}
@@ -63,7 +64,7 @@ fn line_of(alloc: Global, value: &Value) -> Result<Vec<u8>, OutOfMemory>
 /// Writes the line of a fault, with its line feed:
 /// - `{"byte":N,"fault":"LogDamaged","record":N}` for a damaged record.
 /// - `{"fault":NAME,"job":N}` for another catalogue.
-/// - `{"fault":NAME,"record":N}` for another reply.
+/// - `{"fault":NAME,"record":N}` for a bad record of the base, and for another reply.
 /// - `{"fault":NAME}` for any other fault.
 ///
 /// # Errors

@@ -1,12 +1,15 @@
-ghost use Rattle.std.specs.Prelude.{◌≡◌, ◌≤◌, [], ℕ, IfOk, IsOk, OnErr};
+ghost use Rattle.std.specs.Prelude.{◌≡◌, ◌≤◌, [], List, ℕ, IfOk, IsOk, IsTrue, OnErr, OnOk};
 ghost use Rattle.batch_history.specs.Answers.{answer_by};
 ghost use Rattle.batch_history.specs.Due.{IsDue};
 ghost use Rattle.batch_history.specs.Legal.{most_numbered};
 ghost use Rattle.batch_history.specs.Replies.{reply_by};
+ghost use Rattle.batch_history.specs.declared.rows.CheckpointRow.{CheckpointRow};
 ghost use Rattle.batch_history.specs.Rows.{Rows, history, rows as rows_of_history};
 ghost use Rattle.row_repository.specs.Calls.{rows_after_reply};
+ghost use Rattle.row_repository.specs.Shown.{Shown, mark_in, with_shown_rows};
 
-use batch_history::{Answer, Call, Query, Reply};
+use crate::sink::{NotTaken, RowSink};
+use batch_history::{Answer, Call, LastNumbers, Query, Reply};
 use batch_ids::{Moment, OutOfMemory, Refusal};
 use jsl_model::Catalogue;
 use std::alloc::Global;
@@ -59,4 +62,22 @@ pub trait RowRepository: Drop {
     /// The query's refusal if it applies. It may return `OutOfMemory` instead of any result.
     fn ask(&self, query: &Query) -> Result<Answer, Refusal>
         ensures { IsDue result (answer_by (rows self.now) query.now) };
+
+    /// Returns the last numbers that were given. It takes no memory.
+    fn last(&self) -> LastNumbers
+        ensures { result ≡ (rows self.now).last };
+
+    /// Shows all job executions, work items and checkpoints, the former two by rising number.
+    ///
+    /// # Errors
+    ///
+    /// `NotTaken` if one wasn't taken, or if memory was refused.
+    fn show_rows<S: RowSink>(&self, sink: &mut S) -> Result<(), NotTaken>
+        ensures { OnOk result ((marks : List CheckpointRow) × ((rows self.now).checkpoint ≡ mark_in marks)
+            × ((earlier : S) (s : Shown) → S.taken earlier s sink.old
+            → S.taken earlier (with_shown_rows s (rows self.now) marks) sink.new)) };
+
+    /// Checks whether another repository has the same job instances. It takes no memory.
+    fn has_instances_of(&self, other: &Self) -> bool
+        ensures { IsTrue result → (rows self.now).instances ≡ (rows other.now).instances };
 }

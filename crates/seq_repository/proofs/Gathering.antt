@@ -19,7 +19,7 @@ use Rattle.restart_rules.specs.Placed.{ArePlaced, is_placed}
 use Rattle.seq_repository.specs.Agendas.{agenda_of}
 use Rattle.seq_repository.specs.Following.{AreFollowed, AreOfUnfinished, IsFollowed, kept_at}
 use Rattle.seq_repository.specs.Searches.{has_ready}
-use Rattle.seq_repository.specs.Settled.{AreSettled, IsSettled, Shows}
+use Rattle.row_repository.specs.Settled.{AreSettled, IsSettled, Shows}
 use Rattle.seq_repository.specs.declared.cursors.Slot.{Slot}
 use Rattle.seq_repository.proofs.Numbers.{put_pushed}
 

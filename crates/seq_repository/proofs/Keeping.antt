@@ -30,7 +30,7 @@ use Rattle.seq_repository.specs.declared.after.After.{After}
 use Rattle.seq_repository.specs.declared.rows.Change.TheVariants.{Report}
 use Rattle.seq_repository.specs.Kept.{Kept, IsRepository, IsSound}
 use Rattle.seq_repository.specs.Metered.{IsStep}
-use Rattle.seq_repository.specs.Settled.{AreSettled, IsSettled}
+use Rattle.row_repository.specs.Settled.{AreSettled, IsSettled}
 use Rattle.seq_repository.proofs.Agendas.{KeepsOthers, agenda_changed, agenda_pushed, agenda_without, others_apart, others_beside, others_same}
 use Rattle.seq_repository.proofs.Below.{numbers_changed}
 use Rattle.seq_repository.proofs.Entries.{maps-changed}

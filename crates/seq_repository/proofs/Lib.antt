@@ -15,6 +15,7 @@ pub mod Sound
 pub mod Walked
 pub mod Marks
 pub mod Shown
+pub mod Showing
 pub mod Standing
 pub mod Reported
 pub mod Slots

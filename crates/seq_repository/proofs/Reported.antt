@@ -26,7 +26,7 @@ use Rattle.seq_repository.specs.Reports.{IsAfter, IsChange, IsHanded, IsReport, 
 use Rattle.seq_repository.specs.declared.after.After.{After}
 use Rattle.seq_repository.specs.declared.rows.Change.{Change}
 use Rattle.seq_repository.specs.declared.rows.Change.TheVariants.{Claim as TakeUp, Report}
-use Rattle.seq_repository.specs.Settled.{AreSettled}
+use Rattle.row_repository.specs.Settled.{AreSettled}
 use Rattle.seq_repository.proofs.Settled.{given_up_found, given_up_idle, settled_after, settled_given_up}
 use Rattle.seq_repository.proofs.Entries.{change-found, checkpoint-entered, finish-entered, over-own, reported-own}
 use Rattle.seq_repository.proofs.Followed.{walks_same}

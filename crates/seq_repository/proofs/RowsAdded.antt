@@ -10,23 +10,26 @@ use Rattle.batch_history.specs.Legal.{most_numbered}
 use Rattle.batch_history.specs.Lists.{Each}
 use Rattle.batch_history.specs.Walks.{is_work_of}
 use Rattle.batch_history.specs.Works.{work_key, Apart}
+use Rattle.batch_history.specs.declared.rows.CheckpointRow.{CheckpointRow}
 use Rattle.batch_history.specs.declared.rows.ExecutionRow.{ExecutionRow}
 use Rattle.batch_history.specs.declared.rows.JobInstance.{JobInstance}
 use Rattle.batch_history.specs.declared.rows.LastNumbers.{LastNumbers}
 use Rattle.batch_history.specs.declared.rows.WorkRow.{WorkRow}
 use Rattle.records.specs.Left.{works_of}
-use Rattle.records.specs.Maps.{Maps, AreBelow, no_rows}
+use Rattle.records.specs.Maps.{Maps, AreBelow, SetsCheckpoint, no_rows, step_of}
 use Rattle.restart_rules.proofs.Placing.{placed_pushed}
-use Rattle.restart_rules.specs.Placed.{is_placed}
+use Rattle.row_repository.specs.Placed.{is_placed}
 use Rattle.walk_rules.proofs.SameKeys.{same-self}
 use Rattle.walk_rules.specs.Keys.{is_same_key}
 use Rattle.seq_repository.proofs.Below.{below_more, below_pushed}
 use Rattle.seq_repository.proofs.Metering.{both_associative, both_none}
 use Rattle.seq_repository.proofs.Numbers.{rising_pushed}
-use Rattle.seq_repository.specs.Kept.{Kept}
-use Rattle.seq_repository.specs.Restoring.{AreCounted, IsRestored, IsTaken, again_fault, execution_fault, first_fault, has_execution, has_instance, has_room, has_work, is_next, is_within, last_in, last_or, sums_of, with_execution, with_first, with_work, work_fault}
-use Rattle.seq_repository.specs.declared.row_fault.RowFault.{RowFault}
-use Rattle.seq_repository.specs.declared.row_fault.RowFault.TheVariants.{NotNext, NotPlaced, NoOwner, Taken, TooGreat, OutOfMemory}
+use Rattle.records.proofs.Marks.{marks_set}
+use Rattle.row_repository.specs.Restoring.{AreCounted, IsTaken, again_fault, first_fault, has_execution, has_room, has_work, is_next, is_within, last_in, last_or, sums_of, with_checkpoint, work_fault}
+use Rattle.seq_repository.specs.Kept.{Kept, rows_in}
+use Rattle.seq_repository.specs.Restoring.{IsRestored}
+use Rattle.row_repository.specs.declared.row_fault.RowFault.{RowFault}
+use Rattle.row_repository.specs.declared.row_fault.RowFault.TheVariants.{NotNext, NotPlaced, NoOwner, Taken, TooGreat, OutOfMemory}
 
 -- ---- What has no fault
 
@@ -99,7 +102,7 @@ within_true most m h =
     }
 
 -- the sums with a work item that has no fault fit
-pub room_for_work : (limit : ℕ) (newest : LastNumbers) (sums : Metrics) (kept : Kept) (row : WorkRow) → IsRestored limit newest sums kept → has_room kept row ≡ true
+pub room_for_work : (limit : ℕ) (newest : LastNumbers) (sums : Metrics) (kept : Kept) (row : WorkRow) → IsRestored limit newest sums kept → has_room (rows_in kept) row ≡ true
     → HaveRoom sums row.metrics
 room_for_work limit newest sums kept row r room =
     let w : IsWithin (most_after kept.count) (sums_of (kept.records.works ++ row ∷ [])) = within_true (most_after kept.count) (sums_of (kept.records.works ++ row ∷ [])) room in
@@ -149,31 +152,38 @@ apart-new (row ∷ rest) new h =
 
 -- a job execution that has no fault
 pub record IsFree (kept : Kept) (row : ExecutionRow) : Type 0 where
-  pub above : (last_in kept.records).execution < row.execution
+  pub above : (last_in (rows_in kept)).execution < row.execution
   pub given : row.execution ≤ kept.last.execution
   pub placed : is_placed kept.catalogue row ≡ true
 
-free-execution : (kept : Kept) (row : ExecutionRow) → execution_fault kept row ≡ None → IsFree kept row
-free-execution kept row none =
-    let one = passed (is_next (last_in kept.records).execution kept.last.execution row.execution) NotNext (cond (is_placed kept.catalogue row) None (Some NotPlaced)) none in
+pub free_again : (kept : Kept) (row : ExecutionRow) → again_fault (rows_in kept) row ≡ None → IsFree kept row
+free_again kept row none =
+    let one = passed (is_next (last_in (rows_in kept)).execution kept.last.execution row.execution) NotNext (cond (is_placed kept.catalogue row) None (Some NotPlaced)) none in
     let two = passed (is_placed kept.catalogue row) NotPlaced None one.1 in
-    let x = next-parts (last_in kept.records).execution kept.last.execution row.execution one.0 in
+    let x = next-parts (last_in (rows_in kept)).execution kept.last.execution row.execution one.0 in
     record { above = x.0; given = x.1; placed = two.0 }
 
 -- the first one of a job instance
 pub record IsFreeFirst (kept : Kept) (row : ExecutionRow) : Type 0 where
-  pub above : (last_in kept.records).instance < row.instance
+  pub above : (last_in (rows_in kept)).instance < row.instance
   pub given : row.instance ≤ kept.last.instance
   pub execution : IsFree kept row
 
-pub free_first : (kept : Kept) (row : ExecutionRow) → first_fault kept row ≡ None → IsFreeFirst kept row
+pub free_first : (kept : Kept) (row : ExecutionRow) → first_fault (rows_in kept) row ≡ None → IsFreeFirst kept row
 free_first kept row none =
-    let one = passed (is_next (last_in kept.records).instance kept.last.instance row.instance) NotNext (execution_fault kept row) none in
-    let i = next-parts (last_in kept.records).instance kept.last.instance row.instance one.0 in
-    record { above = i.0; given = i.1; execution = free-execution kept row one.1 }
+    let one = passed (is_next (last_in (rows_in kept)).instance kept.last.instance row.instance) NotNext (again_fault (rows_in kept) row) none in
+    let i = next-parts (last_in (rows_in kept)).instance kept.last.instance row.instance one.0 in
+    record { above = i.0; given = i.1; execution = free_again kept row one.1 }
 
-pub free_again : (kept : Kept) (row : ExecutionRow) → again_fault kept row ≡ None → IsFree kept row
-free_again kept row none = free-execution kept row (passed (has_instance kept row.instance) NoOwner (execution_fault kept row) none).1
+-- the maps with these rows
+abbrev pub again_in : Maps → ExecutionRow → Maps
+again_in maps row = record maps { executions = maps.executions ++ row ∷ [] }
+
+abbrev pub first_in : Maps → ExecutionRow → Maps
+first_in maps row = record maps { instances = maps.instances ++ record { instance = row.instance; job = row.job } ∷ []; executions = maps.executions ++ row ∷ [] }
+
+abbrev pub work_in : Maps → WorkRow → Maps
+work_in maps row = record maps { works = maps.works ++ row ∷ [] }
 
 -- its numbers are above those of the others
 pub instance_above : (limit : ℕ) (newest : LastNumbers) (sums : Metrics) (kept : Kept) (row : ExecutionRow) → IsRestored limit newest sums kept → IsFreeFirst kept row
@@ -187,7 +197,7 @@ execution_above limit newest sums kept row r ok =
     above-last newest.execution row.execution (map (λ (o : ExecutionRow). o.execution) kept.records.executions) (omega (arith, ap (λ (l : LastNumbers). l.execution) r.newest_is, ok.above)) r.below.execution
 
 pub restored_first : (limit : ℕ) (newest : LastNumbers) (sums : Metrics) (kept : Kept) (m : Maps) (row : ExecutionRow) → IsRestored limit newest sums kept
-    → IsFreeFirst kept row → m ≡ with_first row kept.records
+    → IsFreeFirst kept row → m ≡ first_in kept.records row
     → IsRestored limit (record newest { instance = row.instance; execution = row.execution }) sums (record kept { records = m })
 restored_first limit newest sums kept m row r ok is =
     let made : JobInstance = record { instance = row.instance; job = row.job } in
@@ -225,7 +235,7 @@ restored_first limit newest sums kept m row r ok is =
     }
 
 pub restored_execution : (limit : ℕ) (newest : LastNumbers) (sums : Metrics) (kept : Kept) (m : Maps) (row : ExecutionRow) → IsRestored limit newest sums kept
-    → IsFree kept row → m ≡ with_execution row kept.records
+    → IsFree kept row → m ≡ again_in kept.records row
     → IsRestored limit (record newest { execution = row.execution }) sums (record kept { records = m })
 restored_execution limit newest sums kept m row r ok is =
     let below_x = execution_above limit newest sums kept row r ok in
@@ -262,20 +272,20 @@ restored_execution limit newest sums kept m row r ok is =
 
 -- a work item that has no fault
 pub record HasNoFault (kept : Kept) (row : WorkRow) : Type 0 where
-  pub above : (last_in kept.records).work < row.work
+  pub above : (last_in (rows_in kept)).work < row.work
   pub given : row.work ≤ kept.last.work
-  pub free : has_work kept row ≡ false
-  pub room : has_room kept row ≡ true
+  pub free : has_work (rows_in kept) row ≡ false
+  pub room : has_room (rows_in kept) row ≡ true
 
-pub no_fault : (kept : Kept) (row : WorkRow) → work_fault kept row ≡ None → HasNoFault kept row
+pub no_fault : (kept : Kept) (row : WorkRow) → work_fault (rows_in kept) row ≡ None → HasNoFault kept row
 no_fault kept row none =
-    let in_room : Option RowFault = cond (has_room kept row) None (Some TooGreat) in
-    let free : Option RowFault = cond (has_work kept row) (Some Taken) in_room in
-    let one = passed (is_next (last_in kept.records).work kept.last.work row.work) NotNext (cond (has_execution kept row.execution) free (Some NoOwner)) none in
-    let two = passed (has_execution kept row.execution) NoOwner free one.1 in
-    let three = not-passed (has_work kept row) Taken in_room two.1 in
-    let four = passed (has_room kept row) TooGreat None three.1 in
-    let w = next-parts (last_in kept.records).work kept.last.work row.work one.0 in
+    let in_room : Option RowFault = cond (has_room (rows_in kept) row) None (Some TooGreat) in
+    let free : Option RowFault = cond (has_work (rows_in kept) row) (Some Taken) in_room in
+    let one = passed (is_next (last_in (rows_in kept)).work kept.last.work row.work) NotNext (cond (has_execution (rows_in kept) row.execution) free (Some NoOwner)) none in
+    let two = passed (has_execution (rows_in kept) row.execution) NoOwner free one.1 in
+    let three = not-passed (has_work (rows_in kept) row) Taken in_room two.1 in
+    let four = passed (has_room (rows_in kept) row) TooGreat None three.1 in
+    let w = next-parts (last_in (rows_in kept)).work kept.last.work row.work one.0 in
     record { above = w.0; given = w.1; free = three.0; room = four.0 }
 
 -- its number is above those of the others
@@ -285,7 +295,7 @@ work_above limit newest sums kept row r ok =
     above-last newest.work row.work (map (λ (o : WorkRow). o.work) kept.records.works) (omega (arith, ap (λ (l : LastNumbers). l.work) r.newest_is, ok.above)) r.below.work
 
 pub restored_work : (limit : ℕ) (newest : LastNumbers) (sums after : Metrics) (kept : Kept) (m : Maps) (row : WorkRow) → IsRestored limit newest sums kept
-    → HasNoFault kept row → after ≡ both_metrics sums row.metrics → m ≡ with_work row kept.records
+    → HasNoFault kept row → after ≡ both_metrics sums row.metrics → m ≡ work_in kept.records row
     → IsRestored limit (record newest { work = row.work }) after (record kept { records = m })
 restored_work limit newest sums after kept m row r ok joined is =
     let below_w = work_above limit newest sums kept row r ok in
@@ -319,6 +329,19 @@ restored_work limit newest sums after kept m row r ok joined is =
       };
       sums_are = joined ∙ (ap (λ (s : Metrics). both_metrics s row.metrics) r.sums_are ∙ sym (sums_pushed kept.records.works row));
     }
+
+-- a checkpoint that has no fault
+pub checkpoint_put : (kept : Kept) (m : Maps) (row : CheckpointRow) → SetsCheckpoint kept.records m (step_of row) (Some row.mark)
+    → rows_in (record kept { records = m }) ≡ with_checkpoint (rows_in kept) row
+checkpoint_put kept m row sets = λ k. record {
+  catalogue = kept.catalogue;
+  count = kept.count;
+  last = kept.last;
+  instances = sets.instances k;
+  executions = sets.executions k;
+  works = sets.works k;
+  checkpoint = λ p. marks_set kept.records m (step_of row) (Some row.mark) sets p k;
+}
 
 -- ---- Results
 

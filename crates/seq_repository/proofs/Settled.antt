@@ -18,7 +18,7 @@ use Rattle.walk_rules.specs.declared.facts.Value.{Value}
 use Rattle.records.specs.Maps.{AreRising, execution_numbers}
 use Rattle.seq_repository.specs.Agendas.{is_ready_row}
 use Rattle.seq_repository.specs.Changes.{abandoned_at, put_row, row_after, row_given_up, ReplacesExecution}
-use Rattle.seq_repository.specs.Settled.{AreSettled, IsSettled}
+use Rattle.row_repository.specs.Settled.{AreSettled, IsSettled}
 use Rattle.seq_repository.specs.declared.rows.Change.{Change}
 use Rattle.seq_repository.proofs.Agendas.{KeepsOthers, above-passed, known-there}
 use Rattle.seq_repository.proofs.Followed.{cmp-own, found-beside, found_put}

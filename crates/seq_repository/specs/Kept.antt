@@ -14,7 +14,7 @@ use Rattle.restart_rules.specs.Restarting.{rows_over}
 use Rattle.seq_repository.specs.Agendas.{agenda_of}
 use Rattle.seq_repository.specs.Following.{AreFollowed, AreOfUnfinished, kept_at}
 use Rattle.seq_repository.specs.Metered.{AreWithin}
-use Rattle.seq_repository.specs.Settled.{AreSettled}
+use Rattle.row_repository.specs.Settled.{AreSettled}
 use Rattle.seq_repository.specs.declared.cursors.Slot.{Slot}
 
 -- the state of a repository: a catalogue, the number of accepted operations, the last numbers that were given

@@ -17,7 +17,7 @@ use Rattle.seq_repository.specs.Changes.{row_after, Replaces, ReplacesExecution}
 use Rattle.seq_repository.specs.Following.{Walks}
 use Rattle.seq_repository.specs.Kept.{Kept}
 use Rattle.seq_repository.specs.Metered.{IsStep}
-use Rattle.seq_repository.specs.Settled.{IsSettled}
+use Rattle.row_repository.specs.Settled.{IsSettled}
 use Rattle.seq_repository.specs.declared.after.After.{After}
 use Rattle.seq_repository.specs.declared.rows.Change.TheVariants.{Claim as TakeUp, Report}
 

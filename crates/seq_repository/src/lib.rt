@@ -14,7 +14,6 @@ mod replies;
 mod repository;
 mod restored;
 mod restoring;
-mod row_fault;
 mod rows;
 mod search;
 mod steps;
@@ -25,4 +24,4 @@ pub use batch_history::{
 };
 pub use repository::Repository;
 pub use restored::Restored;
-pub use row_fault::RowFault;
+pub use row_repository::RowFault;

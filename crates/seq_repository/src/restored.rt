@@ -1,20 +1,18 @@
-ghost use Rattle.std.specs.Prelude.{◌≡◌, ◌≢◌, ◌≤◌, ◌+◌, ◌↔◌, None, Some, nat_le, IsSome, IsTrue, IfSome, IfOk, OnOk, OnErr, MatchResult};
-ghost use Rattle.batch_history.specs.Legal.{most_numbered};
+ghost use Rattle.std.specs.Prelude.{◌≡◌, ◌≤◌, ◌+◌, ◌↔◌, None, Some, nat_le, IsTrue, OnOk, OnErr};
 ghost use Rattle.batch_history.specs.Works.{work_key};
 ghost use Rattle.batch_ids.specs.Metrics.{both_metrics};
-ghost use Rattle.records.specs.Maps.{no_rows, step_of, SetsCheckpoint};
-ghost use Rattle.restart_rules.specs.Placed.{is_placed};
-ghost use Rattle.seq_repository.specs.Restoring.{AreCounted, IsTaken, again_fault, checkpoint_fault, execution_fault, first_fault, has_execution, has_instance, has_room, has_work, is_next, is_within, last_in, with_execution, with_first, with_work, work_fault};
-ghost use Rattle.seq_repository.specs.Settled.{AreSettled};
+ghost use Rattle.row_repository.specs.Placed.{is_placed};
+ghost use Rattle.row_repository.specs.Restoring.{AreCounted, IsTaken, again_fault, checkpoint_fault, first_fault, has_execution, has_instance, has_room, has_work, is_next, is_within, last_in, with_again, with_checkpoint, with_first, with_work, work_fault};
+ghost use Rattle.seq_repository.specs.Kept.{rows_in};
 ghost use Rattle.walk_rules.specs.Keys.{is_same_key};
 
 use crate::repository::Repository;
 use crate::restoring::agenda_of;
-use crate::row_fault::RowFault;
 use batch_history::{CheckpointRow, ExecutionRow, JobInstance, LastNumbers, WorkRow};
 use batch_ids::{ExecutionId, InstanceId, Metrics, WorkId};
 use jsl_model::Catalogue;
 use records::Records;
+use row_repository::{RowFault, RowRestoration};
 use std::alloc::Global;
 use std::collections::BTreeMap;
 use std::marker::Model;
@@ -22,15 +20,8 @@ use std::marker::Model;
 /// The most that an operation adds to a count of the metrics.
 const MOST_REPORTED: u64 = 4_294_967_295;
 
-/// Rows from which a repository of at most `LIMIT` accepted operations is restored. Contracts see
-/// them as they see a repository.
-///
-/// Job executions and work items are each added by rising number, the first job execution of a job
-/// instance together with the job instance. A work item comes after its job execution, and a
-/// checkpoint after its job instance. `finish` makes the repository. It goes on as the one that had
-/// these rows.
-///
-/// A row that cannot be among them is refused. Then nothing has changed.
+/// Rows from which a repository of at most `LIMIT` accepted operations is restored
+/// ([`RowRestoration`]). Contracts see them as they see a repository.
 #[derive(Debug, Drop)]
 pub struct Restored<const LIMIT: u64> {
     alloc: Global,
@@ -117,24 +108,16 @@ fn is_placed(catalogue: &Catalogue, row: &ExecutionRow) -> bool
     }
 }
 
-impl<const LIMIT: u64> Restored<LIMIT> {
-    /// Creates a restoration without rows: over this catalogue, after `count` operations that gave
-    /// the last numbers. `LIMIT` is at most 4,294,967,296. All memory that it takes later comes from
-    /// `alloc`.
-    ///
-    /// Returns `None` if `count` is above `LIMIT`, or a last number above `count`.
+impl<const LIMIT: u64> RowRestoration<Repository<LIMIT>> for Restored<LIMIT> {
+    ghost rows = { rows_in };
+
     #[tactic(auto, using(crate::proofs::RowsAdded::restored_none))]
-    pub fn new(
+    fn new(
         alloc: Global,
         catalogue: Catalogue,
         count: u64,
         last: LastNumbers,
-    ) -> Option<Restored<LIMIT>>
-        requires { LIMIT ≤ most_numbered }
-        ensures made { IfSome result (λ made. made
-            ≡ record { catalogue = catalogue; count = count; last = last; records = no_rows }) }
-        ensures counted { IsSome result ↔ AreCounted LIMIT count last }
-    {
+    ) -> Option<Restored<LIMIT>> {
         if !are_counted(LIMIT, count, last) {
             drop(catalogue);
             return None;
@@ -154,76 +137,17 @@ impl<const LIMIT: u64> Restored<LIMIT> {
         })
     }
 
-    /// Adds a job instance and its first job execution, both behind the others.
-    ///
-    /// # Errors
-    ///
-    /// The first of these that applies, or `OutOfMemory`:
-    /// - `NotNext`: the number of the job instance, or of the job execution, is not above that of
-    ///   the row before, or is above the last that was given;
-    /// - `NotPlaced`: its job is not in the catalogue, or its plan does not begin at an element of
-    ///   the job's own list.
-    #[tactic(auto, using(crate::proofs::RowsAdded::taken_put))]
-    pub fn add_first(&mut self, row: ExecutionRow) -> Result<(), RowFault>
-        ensures taken { IsTaken result (first_fault self.old row) }
-        ensures added { OnOk result (self.new
-            ≡ record self.old { records = with_first row self.old.records }) }
-        ensures unchanged { OnErr result (self.new ≡ self.old) }
-    {
-        match self.first_fault(&row) {
-            None => self.put_first(row),
-            Some(fault) => {
-                drop(row);
-                Err(fault)
-            }
+    fn add_execution(&mut self, row: ExecutionRow) -> Result<(), RowFault> {
+        if self.has_instance(row.instance) {
+            self.add_again(row)
+        } else {
+            self.add_first(row)
         }
     }
 
-    /// Adds a further job execution of a job instance, behind the others.
-    ///
-    /// # Errors
-    ///
-    /// The first of these that applies, or `OutOfMemory`:
-    /// - `NoOwner`: its job instance has no row;
-    /// - `NotNext`: its number is not above that of the row before, or is above the last that was
-    ///   given;
-    /// - `NotPlaced`: its job is not in the catalogue, or its plan does not begin at an element of
-    ///   the job's own list.
+    /// It costs time proportional to the number of work items of the job execution.
     #[tactic(auto, using(crate::proofs::RowsAdded::taken_put))]
-    pub fn add_execution(&mut self, row: ExecutionRow) -> Result<(), RowFault>
-        ensures taken { IsTaken result (again_fault self.old row) }
-        ensures added { OnOk result (self.new
-            ≡ record self.old { records = with_execution row self.old.records }) }
-        ensures unchanged { OnErr result (self.new ≡ self.old) }
-    {
-        match self.again_fault(&row) {
-            None => self.put_execution(row),
-            Some(fault) => {
-                drop(row);
-                Err(fault)
-            }
-        }
-    }
-
-    /// Adds a work item, behind the others. It costs time proportional to the number of work items
-    /// of its job execution.
-    ///
-    /// # Errors
-    ///
-    /// The first of these that applies, or `OutOfMemory`:
-    /// - `NotNext`: its number is not above that of the row before, or is above the last that was
-    ///   given;
-    /// - `NoOwner`: its job execution has no row;
-    /// - `Taken`: another work item of its job execution has its work key;
-    /// - `TooGreat`: with it, a count of the metrics would be greater than `count` operations can
-    ///   report.
-    #[tactic(auto, using(crate::proofs::RowsAdded::taken_put))]
-    pub fn add_work(&mut self, row: WorkRow) -> Result<(), RowFault>
-        ensures taken { IsTaken result (work_fault self.old row) }
-        ensures added { OnOk result (self.new
-            ≡ record self.old { records = with_work row self.old.records }) }
-        ensures unchanged { OnErr result (self.new ≡ self.old) }
-    {
+    fn add_work(&mut self, row: WorkRow) -> Result<(), RowFault> {
         match self.work_fault(&row) {
             None => self.put_work(row),
             Some(fault) => {
@@ -233,22 +157,8 @@ impl<const LIMIT: u64> Restored<LIMIT> {
         }
     }
 
-    /// Adds the checkpoint of a step, or of a partition of it.
-    ///
-    /// # Errors
-    ///
-    /// The first of these that applies, or `OutOfMemory`:
-    /// - `NoOwner`: its job instance has no row;
-    /// - `Taken`: the step, or the partition, has a checkpoint already.
     #[tactic(auto, using(crate::proofs::RowsAdded::taken_put))]
-    pub fn add_checkpoint(&mut self, row: CheckpointRow) -> Result<(), RowFault>
-        ensures taken { IsTaken result (checkpoint_fault self.old row) }
-        ensures added { OnOk result (SetsCheckpoint self.old.records self.new.records
-            (step_of row) (Some row.mark)) }
-        ensures rest { OnOk result (self.new
-            ≡ record self.old { records = self.new.records }) }
-        ensures unchanged { OnErr result (self.new ≡ self.old) }
-    {
+    fn add_checkpoint(&mut self, row: CheckpointRow) -> Result<(), RowFault> {
         match self.checkpoint_fault(&row) {
             None => self.put_checkpoint(row),
             Some(fault) => {
@@ -258,22 +168,9 @@ impl<const LIMIT: u64> Restored<LIMIT> {
         }
     }
 
-    /// Returns the repository that has these rows.
-    ///
     /// It costs a walk of each job execution.
-    ///
-    /// # Errors
-    ///
-    /// `NotSettled` if a job execution shows another batch status or exit status than its walk comes
-    /// to, or no end although it is finished. Or `OutOfMemory`.
     #[tactic(auto, using(crate::proofs::Gathering::none_followed, crate::proofs::Gathering::no_slots))]
-    pub fn finish(self) -> Result<Repository<LIMIT>, RowFault>
-        ensures restored { IfOk result (λ made. made ≡ self.entry) }
-        ensures settled { MatchResult result
-            (λ _. AreSettled self.entry.catalogue self.entry.records.works self.entry.records.executions)
-            (λ fault. fault ≢ RowFault.OutOfMemory
-            → AreSettled self.entry.catalogue self.entry.records.works self.entry.records.executions → ⊥) }
-    {
+    fn finish(self) -> Result<Repository<LIMIT>, RowFault> {
         let Restored {
             alloc,
             catalogue,
@@ -300,24 +197,58 @@ impl<const LIMIT: u64> Restored<LIMIT> {
             }
         }
     }
+}
+
+impl<const LIMIT: u64> Restored<LIMIT> {
+    /// Adds a job instance and its first job execution.
+    #[tactic(auto, using(crate::proofs::RowsAdded::taken_put))]
+    fn add_first(&mut self, row: ExecutionRow) -> Result<(), RowFault>
+        ensures taken { IsTaken result (first_fault (rows_in self.old) row) }
+        ensures added { OnOk result (rows_in self.new ≡ with_first (rows_in self.old) row) }
+        ensures unchanged { OnErr result (self.new ≡ self.old) }
+    {
+        match self.first_fault(&row) {
+            None => self.put_first(row),
+            Some(fault) => {
+                drop(row);
+                Err(fault)
+            }
+        }
+    }
+
+    /// Adds a further job execution of a job instance.
+    #[tactic(auto, using(crate::proofs::RowsAdded::taken_put))]
+    fn add_again(&mut self, row: ExecutionRow) -> Result<(), RowFault>
+        ensures taken { IsTaken result (again_fault (rows_in self.old) row) }
+        ensures added { OnOk result (rows_in self.new ≡ with_again (rows_in self.old) row) }
+        ensures unchanged { OnErr result (self.new ≡ self.old) }
+    {
+        match self.again_fault(&row) {
+            None => self.put_execution(row),
+            Some(fault) => {
+                drop(row);
+                Err(fault)
+            }
+        }
+    }
 
     /// Checks whether the job instance of this number exists.
     fn has_instance(&self, i: InstanceId) -> bool
-        ensures { result ≡ has_instance self.now i }
+        ensures { result ≡ has_instance (rows_in self.now) i }
     {
         self.records.instance(i).is_some()
     }
 
     /// Checks whether the job execution of this number exists.
     fn has_execution(&self, x: ExecutionId) -> bool
-        ensures { result ≡ has_execution self.now x }
+        ensures { result ≡ has_execution (rows_in self.now) x }
     {
         self.records.execution(x).is_some()
     }
 
     /// Checks whether the job execution of a work item has another one of its work key.
     fn has_work(&self, row: &WorkRow) -> bool
-        ensures { result ≡ has_work self.now row.now }
+        ensures { result ≡ has_work (rows_in self.now) row.now }
     {
         for other in self.records.works_of(row.execution) {
             if is_same_key(other, row) {
@@ -330,28 +261,28 @@ impl<const LIMIT: u64> Restored<LIMIT> {
     /// Checks whether the metrics of all work items with this one are what so many operations can
     /// report.
     fn has_room(&self, row: &WorkRow) -> bool
-        ensures { result ≡ has_room self.now row.now }
+        ensures { result ≡ has_room (rows_in self.now) row.now }
     {
         are_within(&self.sums, &row.metrics, self.count * MOST_REPORTED)
     }
 
     /// Checks whether a number may be that of the next job instance.
     fn is_next_instance(&self, i: InstanceId) -> bool
-        ensures { result ≡ is_next (last_in self.now.records).instance self.now.last.instance i }
+        ensures { result ≡ is_next (last_in (rows_in self.now)).instance self.now.last.instance i }
     {
         is_next(self.newest.instance, self.last.instance, i.value())
     }
 
     /// Checks whether a number may be that of the next job execution.
     fn is_next_execution(&self, x: ExecutionId) -> bool
-        ensures { result ≡ is_next (last_in self.now.records).execution self.now.last.execution x }
+        ensures { result ≡ is_next (last_in (rows_in self.now)).execution self.now.last.execution x }
     {
         is_next(self.newest.execution, self.last.execution, x.value())
     }
 
     /// Checks whether a number may be that of the next work item.
     fn is_next_work(&self, w: WorkId) -> bool
-        ensures { result ≡ is_next (last_in self.now.records).work self.now.last.work w }
+        ensures { result ≡ is_next (last_in (rows_in self.now)).work self.now.last.work w }
     {
         is_next(self.newest.work, self.last.work, w.value())
     }
@@ -363,9 +294,9 @@ impl<const LIMIT: u64> Restored<LIMIT> {
         is_placed(&self.catalogue, row)
     }
 
-    /// Returns the fault of a job execution, if it has one.
-    fn execution_fault(&self, row: &ExecutionRow) -> Option<RowFault>
-        ensures { result ≡ execution_fault self.now row.now }
+    /// Returns the fault of a further job execution of a job instance, if it has one.
+    fn again_fault(&self, row: &ExecutionRow) -> Option<RowFault>
+        ensures { result ≡ again_fault (rows_in self.now) row.now }
     {
         if !self.is_next_execution(row.execution) {
             Some(RowFault::NotNext)
@@ -378,29 +309,18 @@ impl<const LIMIT: u64> Restored<LIMIT> {
 
     /// Returns the fault of the first job execution of a job instance, if it has one.
     fn first_fault(&self, row: &ExecutionRow) -> Option<RowFault>
-        ensures { result ≡ first_fault self.now row.now }
+        ensures { result ≡ first_fault (rows_in self.now) row.now }
     {
         if self.is_next_instance(row.instance) {
-            self.execution_fault(row)
+            self.again_fault(row)
         } else {
             Some(RowFault::NotNext)
         }
     }
 
-    /// Returns the fault of a further job execution of a job instance, if it has one.
-    fn again_fault(&self, row: &ExecutionRow) -> Option<RowFault>
-        ensures { result ≡ again_fault self.now row.now }
-    {
-        if self.has_instance(row.instance) {
-            self.execution_fault(row)
-        } else {
-            Some(RowFault::NoOwner)
-        }
-    }
-
     /// Returns the fault of a work item, if it has one.
     fn work_fault(&self, row: &WorkRow) -> Option<RowFault>
-        ensures { result ≡ work_fault self.now row.now }
+        ensures { result ≡ work_fault (rows_in self.now) row.now }
     {
         if !self.is_next_work(row.work) {
             Some(RowFault::NotNext)
@@ -417,7 +337,7 @@ impl<const LIMIT: u64> Restored<LIMIT> {
 
     /// Returns the fault of a checkpoint, if it has one.
     fn checkpoint_fault(&self, row: &CheckpointRow) -> Option<RowFault>
-        ensures { result ≡ checkpoint_fault self.now row.now }
+        ensures { result ≡ checkpoint_fault (rows_in self.now) row.now }
     {
         if !self.has_instance(row.instance) {
             Some(RowFault::NoOwner)
@@ -429,10 +349,9 @@ impl<const LIMIT: u64> Restored<LIMIT> {
     }
 
     fn put_first(&mut self, row: ExecutionRow) -> Result<(), RowFault>
-        requires { first_fault self.old row ≡ None }
+        requires { first_fault (rows_in self.old) row ≡ None }
         ensures memory { OnErr result (result ≡ Err RowFault.OutOfMemory) }
-        ensures added { OnOk result (self.new
-            ≡ record self.old { records = with_first row self.old.records }) }
+        ensures added { OnOk result (rows_in self.new ≡ with_first (rows_in self.old) row) }
         ensures unchanged { OnErr result (self.new ≡ self.old) }
     {
         let (instance, x) = (row.instance, row.execution);
@@ -451,10 +370,9 @@ impl<const LIMIT: u64> Restored<LIMIT> {
     }
 
     fn put_execution(&mut self, row: ExecutionRow) -> Result<(), RowFault>
-        requires { again_fault self.old row ≡ None }
+        requires { again_fault (rows_in self.old) row ≡ None }
         ensures memory { OnErr result (result ≡ Err RowFault.OutOfMemory) }
-        ensures added { OnOk result (self.new
-            ≡ record self.old { records = with_execution row self.old.records }) }
+        ensures added { OnOk result (rows_in self.new ≡ with_again (rows_in self.old) row) }
         ensures unchanged { OnErr result (self.new ≡ self.old) }
     {
         let x = row.execution;
@@ -464,10 +382,9 @@ impl<const LIMIT: u64> Restored<LIMIT> {
     }
 
     fn put_work(&mut self, row: WorkRow) -> Result<(), RowFault>
-        requires { work_fault self.old row ≡ None }
+        requires { work_fault (rows_in self.old) row ≡ None }
         ensures memory { OnErr result (result ≡ Err RowFault.OutOfMemory) }
-        ensures added { OnOk result (self.new
-            ≡ record self.old { records = with_work row self.old.records }) }
+        ensures added { OnOk result (rows_in self.new ≡ with_work (rows_in self.old) row) }
         ensures unchanged { OnErr result (self.new ≡ self.old) }
     {
         let (w, metrics) = (row.work, row.metrics);
@@ -479,10 +396,7 @@ impl<const LIMIT: u64> Restored<LIMIT> {
 
     fn put_checkpoint(&mut self, row: CheckpointRow) -> Result<(), RowFault>
         ensures memory { OnErr result (result ≡ Err RowFault.OutOfMemory) }
-        ensures added { OnOk result (SetsCheckpoint self.old.records self.new.records
-            (step_of row) (Some row.mark)) }
-        ensures rest { OnOk result (self.new
-            ≡ record self.old { records = self.new.records }) }
+        ensures added { OnOk result (rows_in self.new ≡ with_checkpoint (rows_in self.old) row) }
         ensures unchanged { OnErr result (self.new ≡ self.old) }
     {
         let CheckpointRow {

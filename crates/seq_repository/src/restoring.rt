@@ -6,16 +6,16 @@ ghost use Rattle.records.specs.Maps.{AreRising, execution_numbers};
 ghost use Rattle.restart_rules.specs.Placed.{ArePlaced, is_placed};
 ghost use Rattle.seq_repository.specs.Agendas.{agenda_of};
 ghost use Rattle.seq_repository.specs.Searches.{has_ready};
-ghost use Rattle.seq_repository.specs.Settled.{AreSettled, IsSettled, Shows};
+ghost use Rattle.row_repository.specs.Settled.{AreSettled, IsSettled, Shows};
 
 use crate::agenda;
-use crate::row_fault::RowFault;
 use batch_history::ExecutionRow;
 use batch_ids::{OutOfMemory, T256};
 use jsl_model::Catalogue;
 use records::Records;
 use reply_rules::{batch_status, exit_status, first_ready, has_something, is_finished};
 use restart_rules::walk_value;
+use row_repository::RowFault;
 use std::alloc::Global;
 use std::collections::BTreeSet;
 use walk_rules::Value;

@@ -9,7 +9,7 @@ from dataclasses import dataclass
 
 HEADER = b"bctlog2\n"
 OPEN, SHUT, SEAL = b"111", b"000", b"sss"
-CATALOGUE, OPERATION = b"c", b"o"
+CATALOGUE, BASE, OPERATION = b"c", b"b", b"o"
 # A crash leaves no more bytes than these after a gate that is not open.
 MAX_BATCH = 2**25 + 128
 # Behind the gate: the mark, the length twice, the number, the check of the record and the check of the reply.
@@ -84,6 +84,10 @@ class Record:
 
 def catalogue_record(line: bytes) -> Record:
     return Record(CATALOGUE, line)
+
+
+def base_record(line: bytes) -> Record:
+    return Record(BASE, line)
 
 
 def operation_record(line: bytes, reply: bytes) -> Record:

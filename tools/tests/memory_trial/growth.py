@@ -9,7 +9,8 @@ with no refusal, and must make as many requests both times. Then each of these r
 - Or an artifact faults: all replies are written, and the line of one job execution says how far its step came.
 
 A script over a log is such a case too. Then the file has its records, the catalogue that grew, and just the accepted lines
-whose replies were written. If no reply was written, it may be as it was before. A file that is refused stays as it was.
+whose replies were written. If no reply was written, it may be as it was before. A file that is refused stays as it was. A log
+that is compacted first has a base and those lines, or it goes on as it was, and standard error says so.
 
 No later request may end the run at an earlier line, each line must be the one at which some request was refused, and each
 fault must come of some request. A log must have been left both unopened and opened.
@@ -24,7 +25,7 @@ from dataclasses import dataclass, field, replace
 from pathlib import Path
 from threading import get_ident
 
-from log_trial.log_file import SHUT, Record, catalogue_record, log_of, operation_record
+from log_trial.log_file import BASE, CATALOGUE, OPERATION, SHUT, Record, catalogue_record, log_of, operation_record, read
 from log_trial.script import Script, accepted_of
 from program import CRATE, DONE, LOG_REFUSED, Ended, Program, Wrong, cut_of, over, says_cut, tail_of
 from repository import ROOT
@@ -37,6 +38,7 @@ BEGUN = 10
 ANOTHER_JOB = b'{"id":"sums","elements":[{"kind":"step","id":"s","batchlet":{"ref":"ok"}}]}'
 
 LACKS_MEMORY = (5, b"batchctl: out of memory\n")
+NOT_COMPACTED = b"batchctl: the log is not compacted: out of memory\n"
 REFUSED_COMMAND_LINE = (2, b"error: out of memory\n")
 
 
@@ -48,16 +50,42 @@ class Log:
     name: str
     before: bytes | None
     opened: tuple[Record, ...] = ()
+    words: tuple[str, ...] = ()
 
-    def files(self) -> set[bytes | None]:
-        """The file before it is opened, and after that."""
-        return {self.before, log_of(self.opened) if self.opened else self.before}
+    def has_all(self, files: set[bytes | None]) -> bool:
+        """Whether these are the file before it is opened, and after that."""
+        return files == {self.before, log_of(self.opened) if self.opened else self.before}
 
     def may_become(self, file: bytes | None, output: bytes, added: list[Record]) -> bool:
         """Whether a run may leave this file, if it wrote this output and accepted the lines of these records."""
         if self.opened and file == log_of([*self.opened, *added]):
             return True
         return file == self.before and not (self.opened and output)
+
+
+def has_base(file: bytes | None, operations: int, added: list[Record]) -> bool:
+    """Whether a file is a log with a base that stands for so many operations, and these records behind it."""
+    records = read(file).records if file else []
+    base = [record for record in records if record.mark == BASE]
+    if not base or records[0].mark != CATALOGUE or [*base, *added] != records[1:]:
+        return False
+    return bool(json.loads(base[0].line)["base"]["count"] == operations)
+
+
+@dataclass(frozen=True)
+class CompactedLog(Log):
+    """A log that is compacted before its lines are answered. If memory is refused then, it goes on as it was."""
+
+    words: tuple[str, ...] = ("--compact",)
+
+    def is_compacted(self, file: bytes | None, added: list[Record]) -> bool:
+        return has_base(file, sum(record.mark == OPERATION for record in self.opened), added)
+
+    def has_all(self, files: set[bytes | None]) -> bool:
+        return self.before in files and any(self.is_compacted(file, []) for file in files)
+
+    def may_become(self, file: bytes | None, output: bytes, added: list[Record]) -> bool:
+        return super().may_become(file, output, added) or self.is_compacted(file, added)
 
 
 @dataclass(frozen=True)
@@ -108,10 +136,12 @@ class Case:
 
 @dataclass(frozen=True)
 class Run(Ended):
-    """A run of the program: how it ended, the bytes of its log, if it has one, and those that were cut off."""
+    """A run of the program: how it ended, the bytes of its log, if it has one, and those that were cut off; and whether the log
+    was compacted, if that was asked for."""
 
     log: bytes | None = None
     cut: bytes = b""
+    is_compacted: bool = True
 
     def ends_as(self, ending: tuple[int, bytes]) -> bool:
         return (self.status, self.faults) == ending
@@ -135,12 +165,13 @@ class Refuser:
             path.unlink(missing_ok=True)
         if case.log and case.log.before is not None:
             log.write_bytes(case.log.before)
-        words = over(log) if case.log else case.words
+        words = [*over(log), *case.log.words] if case.log else case.words
         ended = self.program.under(REFUSE_AT=str(number), REFUSE_COUNT=str(counted)).run(words, lines)
         requests = int.from_bytes(counted.read_bytes() if counted.exists() else b"", sys.byteorder)
         left = log.read_bytes() if log.exists() else None
         cut = cut_of(log).read_bytes() if ended.faults.startswith(says_cut(log)) else b""
-        return Run(ended.status, ended.output, ended.faults.removeprefix(says_cut(log)), left, cut), requests
+        faults = ended.faults.removeprefix(NOT_COMPACTED).removeprefix(says_cut(log))
+        return Run(ended.status, ended.output, faults, left, cut, not ended.faults.startswith(NOT_COMPACTED)), requests
 
     def whole(self, case: Case) -> tuple[Run, int]:
         """A run with no refusal, and how many requests it makes each time."""
@@ -210,6 +241,7 @@ def over_opened_logs(script: Script) -> list[Case]:
     return [
         over_log(Log("a whole log", before, begun), script, DONE, due),
         over_log(Log("a torn log", torn, begun), script, DONE, due),
+        over_log(CompactedLog("a log that is compacted", before, begun), script, DONE, due),
         over_log(Log("a log with fewer jobs", before, with_catalogue), grown, DONE, due),
     ]
 
@@ -250,6 +282,8 @@ def judge(number: int, case: Case, run: Run, whole: Run, least: int) -> None:
         return
     if run.ends_as((0, b"")) and case.may_fault_to(whole.output, run.output):
         return
+    if not run.is_compacted and run.ends_as((0, b"")) and run.output == whole.output and case.may_leave(run):
+        return
     if not (run.ends_as(LACKS_MEMORY) or run.ends_as(REFUSED_COMMAND_LINE)):
         raise Wrong(f"{case.name()}, request {number}: status {run.status}, {run.faults!r}, output {run.output!r}")
     if not whole.output.startswith(run.output) or not (b"\n" + run.output).endswith(b"\n"):
@@ -271,10 +305,13 @@ class Refused:
     logs: set[bytes | None] = field(default_factory=set)
     faulted: list[bytes] = field(default_factory=list)
     harmless: int = 0
+    uncompacted: int = 0
 
     def add(self, run: Run, whole: Run) -> None:
         if run == whole:
             self.harmless += 1
+        elif not run.is_compacted:
+            self.uncompacted += 1
         elif run.status == 0:
             lines = whole.output.splitlines(keepends=True)
             self.faulted += [line for line in run.output.splitlines(keepends=True) if line not in lines]
@@ -283,9 +320,10 @@ class Refused:
             self.logs |= set() if run.output else {run.log}
 
     def told(self) -> str:
+        went_on = f", {self.uncompacted} left the log as it was" if self.uncompacted else ""
         return (
             f"{len(self.stood)} ended the run with the replies before, {len(self.faulted)} were faults of artifacts,"
-            f" {self.harmless} cost nothing"
+            f" {self.harmless} cost nothing{went_on}"
         )
 
 
@@ -303,6 +341,8 @@ def check(program: Refuser, case: Case, pool: ThreadPoolExecutor) -> tuple[int, 
     unseen = case.faulted.difference(refused.faulted)
     if unseen:
         raise Wrong(f"{case.name()}: no request that was refused led to {sorted(unseen)}")
-    if case.log and case.log.files() != refused.logs:
+    if isinstance(case.log, CompactedLog) and not refused.uncompacted:
+        raise Wrong(f"{case.name()}: no request that was refused kept the log from being compacted")
+    if case.log and not case.log.has_all(refused.logs):
         raise Wrong(f"{case.name()}: before the first reply the log was only {refused.logs}")
     return requests, f"{case.name()}: {whole.replies()} replies, {requests} requests refused in turn; {refused.told()}"

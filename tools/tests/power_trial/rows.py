@@ -27,11 +27,12 @@ REPAIRED = 10
 
 @dataclass(frozen=True)
 class Start:
-    """A night, the files with which its run begins, and those of its lines that the run is told."""
+    """A night, the files with which its run begins, those of its lines that the run is told, and further words of the run."""
 
     night: Night
     left: Left
     begin: int
+    words: tuple[str, ...] = ()
 
     def lines(self) -> tuple[bytes, ...]:
         return self.night.lines[self.begin : self.begin + FIRST]
@@ -77,6 +78,25 @@ def torn_log(bench: Bench, sizes: tuple[int, int]) -> Start:
     return replace(start, left=max(torn, key=lambda left: (len(dict(left)[LOG]), left)))
 
 
+def compacted_log(bench: Bench, sizes: tuple[int, int]) -> Start:
+    """A log that is compacted before a run is told lines."""
+    return replace(old_log(bench, sizes), words=("--compact",))
+
+
+def torn_compacted_log(bench: Bench, sizes: tuple[int, int]) -> Start:
+    """A torn log that is compacted before a run is told lines."""
+    return replace(torn_log(bench, sizes), words=("--compact",))
+
+
+def log_with_a_base(bench: Bench, sizes: tuple[int, int]) -> Start:
+    """A log that was compacted before."""
+    start = old_log(bench, sizes)
+    caller = Caller(start.night.book.catalogue, [], lambda _: [], ("--compact",))
+    run = bench.noted(folder_of(start.left), WAYS["line by line"], caller)
+    want("a log that is compacted", run.ended, Ended(DONE))
+    return replace(start, left=run.files)
+
+
 def old_draft(bench: Bench, sizes: tuple[int, int]) -> Start:
     """No log, and a draft that an earlier run left: it is longer than the new log."""
     ((_, file),) = old_log(bench, sizes).left
@@ -90,6 +110,9 @@ STARTS: dict[str, Callable[[Bench, tuple[int, int]], Start]] = {
     "a log at rest": log_at_rest,
     "a torn log": torn_log,
     "a log whose catalogue grows": partial(old_log, catalogue=GROWN),
+    "a log that is compacted": compacted_log,
+    "a torn log that is compacted": torn_compacted_log,
+    "a log with a base": log_with_a_base,
 }
 
 
@@ -100,7 +123,7 @@ def start_of(bench: Bench, begin: str, sizes: tuple[int, int]) -> Start:
 
 def first_run(bench: Bench, start: Start, way: str, fail_at: int = 0) -> Run:
     """A run of the row's lines. If a sync fails, it may end early; its replies are a beginning of the due ones then."""
-    caller = Caller(start.night.book.catalogue, [], lambda _: list(start.lines()))
+    caller = Caller(start.night.book.catalogue, [], lambda _: list(start.lines()), start.words)
     run = bench.noted(folder_of(start.left), WAYS[way], caller, fail_at)
     told = start.story().told()
     if not fail_at:
@@ -110,8 +133,9 @@ def first_run(bench: Bench, start: Start, way: str, fail_at: int = 0) -> Run:
     return run
 
 
-def second_run(trial: Trial, night: Night, disk: Disk, way: str, history: tuple[bytes, ...], least: int) -> tuple[Run, Story]:
+def second_run(trial: Trial, start: Start, disk: Disk, way: str, least: int) -> tuple[Run, Story]:
     """A run that goes on on the second day, after the operations that the log has by its replies to the questions."""
+    night, history = start.night, start.story().history
     counts, told_lines = night.book.counts(history, QUESTIONS), list[bytes]()
 
     def plan(told: list[bytes]) -> list[bytes]:
@@ -119,7 +143,7 @@ def second_run(trial: Trial, night: Night, disk: Disk, way: str, history: tuple[
         told_lines.extend(night.rest(count)[:MORE] if count is not None else [])
         return told_lines
 
-    run = trial.opener.bench.noted(disk, WAYS[way], Caller(night.book.catalogue, list(QUESTIONS), plan))
+    run = trial.opener.bench.noted(disk, WAYS[way], Caller(night.book.catalogue, list(QUESTIONS), plan, start.words))
     answers = b"".join(run.ended.output.splitlines(keepends=True)[: len(QUESTIONS)])
     count = counts.get(answers)
     if count is None or count < least:
@@ -132,7 +156,7 @@ def second_run(trial: Trial, night: Night, disk: Disk, way: str, history: tuple[
 def check_second(trial: Trial, what: str, start: Start, disk: Disk, way: str, least: int) -> None:
     """A power cut at each moment of a second run, which begins with this disk."""
     try:
-        run, story = second_run(trial, start.night, disk, way, start.story().history, least)
+        run, story = second_run(trial, start, disk, way, least)
     except Wrong as wrong:
         raise Wrong(f"{what}: {wrong}") from wrong
     check_moments(trial, f"{what}, another run", story, run)
@@ -235,10 +259,10 @@ class Row:
 # The logs with which a run begins, by what happens to it.
 TABLE: dict[Event, list[str]] = {
     a_run: list(STARTS),
-    a_power_cut_and_another_run: ["a new log", "a log", "a log whose catalogue grows"],
-    a_failed_sync: ["a new log", "a log", "a torn log"],
-    a_failed_sync_of_the_folder: ["a new log", "a torn log"],
-    a_kill_and_another_run: ["a new log", "a log", "a torn log"],
+    a_power_cut_and_another_run: ["a new log", "a log", "a log whose catalogue grows", "a log that is compacted"],
+    a_failed_sync: ["a new log", "a log", "a torn log", "a log that is compacted"],
+    a_failed_sync_of_the_folder: ["a new log", "a torn log", "a log that is compacted"],
+    a_kill_and_another_run: ["a new log", "a log", "a torn log", "a log that is compacted"],
     a_failed_sync_and_another_run: ["a new log", "a log", "a torn log"],
     a_failed_sync_of_the_folder_and_another_run: ["a new log"],
 }

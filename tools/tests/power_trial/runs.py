@@ -32,11 +32,17 @@ Plan = Callable[[list[bytes]], list[bytes]]
 
 @dataclass(frozen=True)
 class Caller:
-    """What a caller sends: the catalogue, questions, and then lines that depend on the replies to these."""
+    """What a caller sends: the catalogue, questions, and then lines that depend on the replies to these. The run has further
+    words behind those of the log."""
 
     catalogue: bytes
     asked: list[bytes]
     plan: Plan
+    words: tuple[str, ...] = ()
+
+    def over(self, log: Path) -> list[str]:
+        """The words of the run."""
+        return [*over(log), *self.words]
 
 
 def files_in(folder: Path) -> Left:
@@ -45,7 +51,7 @@ def files_in(folder: Path) -> Left:
 
 def by_lines(program: Program, log: Path, caller: Caller) -> Ended:
     """Sends each line after the reply to the line before."""
-    running, told = program.start(over(log)), list[bytes]()
+    running, told = program.start(caller.over(log)), list[bytes]()
     return end_of(running, fed(running, caller.catalogue, lines_after(caller, told), told))
 
 
@@ -61,12 +67,12 @@ def at_full_speed(program: Program, log: Path, caller: Caller) -> Ended:
         return after_questions(program, log, caller)
     lines = log.parent.parent / "lines"
     lines.write_bytes(caller.catalogue + b"".join(caller.plan([])))
-    return program.run(over(log), lines)
+    return program.run(caller.over(log), lines)
 
 
 def after_questions(program: Program, log: Path, caller: Caller) -> Ended:
     """Sends the questions, waits for all replies, and sends the lines at once."""
-    running, told = program.start(over(log)), list[bytes]()
+    running, told = program.start(caller.over(log)), list[bytes]()
     assert running.stdin and running.stdout
     with suppress(BrokenPipeError):
         running.stdin.write(caller.catalogue + b"".join(caller.asked))

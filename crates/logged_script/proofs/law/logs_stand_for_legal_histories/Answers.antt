@@ -1,5 +1,8 @@
-use Rattle.logged_script.proofs.Standing.{kept_at, legal_at, reply_after, rows_of_log}
+use Rattle.logged_script.proofs.Standing.{begun_at, kept_at, legal_at, reply_after, rows_of_log}
 use Rattle.logged_script.proofs.law.logs_stand_for_legal_histories.Goals as goal
+
+pub returns-clause-begun : goal.returns-clause-begun
+returns-clause-begun c = begun_at
 
 pub returns-clause-legal : goal.returns-clause-legal
 returns-clause-legal c = legal_at

@@ -8,7 +8,7 @@ use Rattle.batch_history.specs.declared.rows.LastNumbers.{LastNumbers}
 use Rattle.batch_history.specs.declared.call.Reply.TheVariants.{Done}
 use Rattle.seq_repository.specs.Kept.{Kept}
 use Rattle.seq_repository.proofs.Entries.{restart-entered}
-use Rattle.seq_repository.specs.Settled.{IsSettled}
+use Rattle.row_repository.specs.Settled.{IsSettled}
 use Rattle.seq_repository.proofs.Settled.{settled_fresh}
 use Rattle.seq_repository.proofs.Keeping.{kept_restart}
 use Rattle.seq_repository.proofs.repository.Repository.enter_restart.Goals as goal

@@ -1,7 +1,7 @@
 use Rattle.std.proofs.Common.{ℕ, ◌∙◌, ap}
 use Rattle.batch_history.specs.declared.rows.LastNumbers.{LastNumbers}
-use Rattle.seq_repository.specs.Kept.{Kept}
-use Rattle.seq_repository.specs.Restoring.{is_next, last_in}
+use Rattle.seq_repository.specs.Kept.{Kept, rows_in}
+use Rattle.row_repository.specs.Restoring.{is_next, last_in}
 use Rattle.seq_repository.proofs.restored.Restored.is_next_work.Goals as goal
 
 pub returns : goal.returns
@@ -9,4 +9,4 @@ returns g c =
     c.is_next.ensures
     ∙ (ap (λ (n : ℕ). is_next c.self.inside.newest.work c.self.inside.last.work n) c.value.ensures
     ∙ (ap (λ (l : LastNumbers). is_next l.work c.self.inside.last.work c.args.w) c.self.invariant.newest_is
-    ∙ ap (λ (k : Kept). is_next (last_in k.records).work k.last.work c.args.w) c.self.view_is))
+    ∙ ap (λ (k : Kept). is_next (last_in (rows_in k)).work k.last.work c.args.w) c.self.view_is))

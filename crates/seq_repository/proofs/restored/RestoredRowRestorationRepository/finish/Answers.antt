@@ -1,7 +1,7 @@
 use Rattle.std.proofs.Common.{sym, subst}
 use Rattle.seq_repository.specs.Kept.{Kept}
-use Rattle.seq_repository.specs.Settled.{AreSettled}
-use Rattle.seq_repository.proofs.restored.Restored.finish.Goals as goal
+use Rattle.row_repository.specs.Settled.{AreSettled}
+use Rattle.seq_repository.proofs.restored.RestoredRowRestorationRepository.finish.Goals as goal
 
 pub returns-in-Err-clause-settled : goal.returns-in-Err-clause-settled
 returns-in-Err-clause-settled g c = λ apart settled.

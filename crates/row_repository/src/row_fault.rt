@@ -24,7 +24,7 @@ pub enum RowFault {
 
 impl From<AllocError> for RowFault {
     ghost use Rattle.std.specs.Prelude.{◌≡◌};
-    ghost use Rattle.seq_repository.specs.declared.row_fault.RowFault.TheVariants.{OutOfMemory};
+    ghost use Rattle.row_repository.specs.declared.row_fault.RowFault.TheVariants.{OutOfMemory};
 
     ghost from_gives = { λ _ fault. fault ≡ OutOfMemory };
 
@@ -35,7 +35,7 @@ impl From<AllocError> for RowFault {
 
 impl<T: Drop> From<AllocFailed<T>> for RowFault {
     ghost use Rattle.std.specs.Prelude.{◌≡◌};
-    ghost use Rattle.seq_repository.specs.declared.row_fault.RowFault.TheVariants.{OutOfMemory};
+    ghost use Rattle.row_repository.specs.declared.row_fault.RowFault.TheVariants.{OutOfMemory};
 
     ghost from_gives = { λ _ fault. fault ≡ OutOfMemory };
 

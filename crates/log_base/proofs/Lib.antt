@@ -1,0 +1,3 @@
+pub mod Added
+pub mod Rebuilt
+pub mod Written

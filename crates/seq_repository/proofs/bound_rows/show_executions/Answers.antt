@@ -1,0 +1,9 @@
+use Rattle.records.specs.Slots.{rows_left}
+use Rattle.row_repository.specs.Shown.{with_shown_execution}
+use Rattle.seq_repository.proofs.Showing.{executions_add, showing_more, with_executions}
+use Rattle.seq_repository.proofs.bound_rows.show_executions.Goals as goal
+
+pub loop-row-preserved : goal.loop-row-preserved
+loop-row-preserved g c =
+    showing_more g.S.RowSink.taken with_executions with_shown_execution executions_add c.args.records.now.executions (rows_left c.loop-row.row-iterator) (rows_left c.next.new.self) c.in-Some.row.now
+    c.args.sink.now c.loop-row.sink c.take_execution.new.self c.in-Some.ensures.steps c.loop-row.invariant c.in_ok-take_execution.ensures
