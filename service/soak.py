@@ -329,7 +329,7 @@ async def operations_of(parts: Parts) -> list[Operation]:
 
 def records_of_log(parts: Parts) -> list[log_file.LogRecord]:
     records = log_file.records(parts.folder / "data" / "history.log")
-    return [record for record in records if not record.is_catalogue]
+    return [record for record in records if record.is_operation]
 
 
 def operations_of_log(parts: Parts) -> list[Operation]:

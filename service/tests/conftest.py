@@ -23,10 +23,13 @@ from job_host.commands.command_line import main  # noqa: E402
 from job_host.commands.program import find_batchctl  # noqa: E402
 from job_host.service.history.coprocess import CoProcess  # noqa: E402
 from job_host.service.history.engine import Engine  # noqa: E402
+from job_host.service.keepers.compacting import can_compact  # noqa: E402
 from job_host.service.server import Service  # noqa: E402
 from job_host.service.settings import Bounds, ServeSettings  # noqa: E402
 
 Say = Callable[..., Awaitable[tuple[int, str]]]
+
+STAND_IN = Path(__file__).resolve().with_name("stand_in_batchctl.py")
 
 
 def batchlet(name: str, ref: str, **more: Any) -> dict[str, Any]:
@@ -122,6 +125,20 @@ def embedded(tmp_path: Path, catalogue: Path, has_log: None) -> Callable[..., Se
     def make(**more: Any) -> ServeSettings:
         given: dict[str, Any] = {"port": 0, "lease": 10.0, "data": tmp_path / "data", **more}
         return ServeSettings(catalogue=given.pop("catalogue", catalogue), batchctl=find_batchctl(None), **given)
+
+    return make
+
+
+@pytest.fixture(params=["stand_in", "batchctl"])
+def compacting(request: pytest.FixtureRequest, tmp_path: Path, catalogue: Path) -> Callable[..., ServeSettings]:
+    """Settings of a service whose program compacts its log: a stand-in, and batchctl if it can."""
+    batchctl = (str(STAND_IN),) if request.param == "stand_in" else find_batchctl(None)
+    if not can_compact(batchctl):
+        pytest.skip("this batchctl has no `script --compact`")
+
+    def make(**more: Any) -> ServeSettings:
+        given: dict[str, Any] = {"port": 0, "lease": 10.0, "data": tmp_path / "data", "catalogue": catalogue, **more}
+        return ServeSettings(batchctl=batchctl, **given)
 
     return make
 

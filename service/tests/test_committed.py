@@ -26,8 +26,9 @@ def lead(service: Service, entered: int, committed: int) -> None:
     """Lets a service lead that has so many operations, of which so many are kept."""
     keeper = service.keeper
     desk, actions = SimpleNamespace(waiting=0), SimpleNamespace(purges_by={SERVICE_SESSION: 1})
+    log = {"base": None, "based": 0}
     keeper.role, keeper.engine = "leader", cast(
-        Any, SimpleNamespace(entered=entered, held={1: None}, process=SimpleNamespace(silence=0.0), actions=actions)
+        Any, SimpleNamespace(entered=entered, held={1: None}, process=SimpleNamespace(silence=0.0), actions=actions, **log)
     )
     keeper.term = cast(Any, SimpleNamespace(committed=committed, desk=desk, ask=fail))
 

@@ -357,6 +357,19 @@ PAGES: list[tuple[str, Any]] = [
         " Begin a new one soon.",
     ),
     (f"warningOf({{...{FULL}, warnFrom: 1501}})", ""),
+    ("based({operations: 20000, rows: 1234, behind: 5678})", "a base of 1,234 rows, and 5,678 operations behind it"),
+    (
+        f"text(compacted({{begun: {SIX}, seconds: 1234.5, isOver: true, failure: null}}))",
+        "2026-11-27 06:30:00: calls waited for 1,234.5 seconds",
+    ),
+    (
+        f"text(compacted({{begun: {SIX}, seconds: 2, isOver: true, failure: 'no memory'}}))",
+        "2026-11-27 06:30:00: it failed after 2 seconds: no memory",
+    ),
+    (
+        f"text(compacted({{begun: {SIX}, seconds: 0, isOver: false, failure: null}}))",
+        "2026-11-27 06:30:00: it goes on, and calls wait",
+    ),
 ]
 MANY: list[tuple[str, Any]] = [
     (f"mayBeChosen({{batchStatus: '{status}', mostRecent: {recent}}})", may)
@@ -472,6 +485,10 @@ PLANTS = {
         ("pages.js", "{ ...query, ...(status", "{ ...(status"),
         ("pages.js", " && !row.mostRecent", ""),
         ("pages.js", "RESTARTABLE.includes(row.batchStatus) && ", ""),
+        ("pages.js", "[rows, behind]", "[behind, rows]"),
+        ("pages.js", "if (!isOver)", "if (isOver)"),
+        ("pages.js", "failure ? told(failure) : null", "null"),
+        ("pages.js", "failure ? `: it failed", "!failure ? `: it failed"),
         ("pages.js", "100 * history.operations", "history.operations"),
         ("pages.js", 'if (history.operations < history.warnFrom) return "";', ""),
     ],

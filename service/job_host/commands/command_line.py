@@ -33,6 +33,7 @@ def add_serve(subcommands: Subcommands[argparse.ArgumentParser]) -> None:
     add("--batchctl", metavar="PROGRAM", help=batchctl)
     add_listening(parser)
     add_retention(parser)
+    add_compaction(parser)
     lease = "a work item is lost after so long without a sign of its worker (default: %(default)g)"
     add("--lease", type=float, default=30.0, metavar="SECONDS", help=lease)
     takeover = "over PostgreSQL, this instance takes over after so long without a sign of the leader (default: %(default)g)"
@@ -50,6 +51,16 @@ def add_retention(parser: argparse.ArgumentParser) -> None:
     parser.add_argument("--keep-failed-days", type=positive, metavar="N", help=failed)
     archive = "a folder to which all that is told of a job instance is written before its purge (default: none)"
     parser.add_argument("--archive", type=Path, metavar="FOLDER", help=archive)
+
+
+def add_compaction(parser: argparse.ArgumentParser) -> None:
+    """When the log is compacted, and what may be forgotten of one that was."""
+    from job_host.commands.options import time_of_day
+
+    at = "compacts the log each day at this local time, while calls wait (default: by itself, if it has grown much)"
+    parser.add_argument("--compact-at", type=time_of_day, metavar="HH:MM", help=at)
+    forget = "goes on though request keys from before a compaction are lost: calls that are made again by them are made twice"
+    parser.add_argument("--forget-keys", action="store_true", help=f"{forget} (default: the service names the files, and ends)")
 
 
 def add_jobs(parser: argparse.ArgumentParser) -> None:
@@ -82,7 +93,7 @@ def run_serve(given: argparse.Namespace) -> int:
     from job_host.service.http.access import SettingsRefused
     from job_host.service.server import serve
 
-    if given.allow and not may_allow(given):
+    if (given.allow and not may_allow(given)) or not may_compact(given):
         return 2
     try:
         return serve(serve_settings(given))
@@ -102,6 +113,14 @@ def may_allow(given: argparse.Namespace) -> bool:
     if given.jobs is not None and set(given.allow) <= set(REFUSED):
         return True
     print(f"jobhost serve: --allow NAME is for --jobs, and NAME is one of {', '.join(sorted(REFUSED))}", file=sys.stderr)
+    return False
+
+
+def may_compact(given: argparse.Namespace) -> bool:
+    """Whether there is a log that these words are for."""
+    if not given.postgres or (given.compact_at is None and not given.forget_keys):
+        return True
+    print("jobhost serve: --compact-at and --forget-keys are for a log, and not for --postgres", file=sys.stderr)
     return False
 
 
@@ -125,6 +144,8 @@ def serve_settings(given: argparse.Namespace) -> ServeSettings:
         keep_days=given.keep_days,
         keep_failed_days=given.keep_failed_days,
         archive=given.archive,
+        compact_at=given.compact_at,
+        forget_keys=given.forget_keys,
     )
 
 

@@ -3,6 +3,7 @@
 from __future__ import annotations
 
 import argparse
+from datetime import datetime, time
 from pathlib import Path
 
 from job_host.commands import jobs
@@ -17,6 +18,14 @@ def positive(text: str) -> int:
     if not text.isascii() or not text.isdigit() or int(text) < 1:
         raise argparse.ArgumentTypeError(f"{text!r} is no whole number from 1 on")
     return int(text)
+
+
+def time_of_day(text: str) -> time:
+    """A time of the day, in hours and minutes."""
+    try:
+        return datetime.strptime(text, "%H:%M").time()
+    except ValueError as fault:
+        raise argparse.ArgumentTypeError(f"{text!r} is no time of the day, as 03:30") from fault
 
 
 def add_command(

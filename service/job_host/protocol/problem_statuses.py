@@ -41,6 +41,7 @@ STATUS_OF_PROBLEM = {
     "JobWithdrawn": 409,
     "JobsFixed": 409,
     "NoLease": 409,
+    "ReplyNotKept": 409,
     "RequestEntityTooLarge": 413,
     "UnsupportedMediaType": 415,
     "NotThisHost": 421,

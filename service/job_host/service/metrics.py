@@ -51,6 +51,11 @@ class Metrics:
         self.archived = Counter("jobhost_archived_job_instances", "Job instances that this instance archived", **given)
         self.round = Gauge("jobhost_retention_round_seconds", "Seconds of the last round of retention", **given)
         self.left = Gauge("jobhost_retention_left", "Job instances that the last round has left to purge", **given)
+        self.base_rows = Gauge("jobhost_log_base_rows", "Rows in the base of the log", **given)
+        self.behind = Gauge("jobhost_log_operations_behind_base", "Operations behind the base of the log", **given)
+        self.compacting = Gauge("jobhost_compaction_seconds", "Seconds that calls waited for the last compaction", **given)
+        self.compacted_at = Gauge("jobhost_compaction_begun", "When the last compaction began, in seconds since 1970", **given)
+        self.not_compacted = Gauge("jobhost_compaction_failed", "1 if the last compaction failed", **given)
 
     def observers(self) -> Observers:
         return Observers(self._observe_commit)
@@ -66,12 +71,23 @@ class Metrics:
         self.round.set(retention.last.seconds)
         self.left.set(retention.last.left)
 
+    def set_compaction(self, keeper: Keeper) -> None:
+        """How the log stands, and what became of its last compaction."""
+        base = keeper.engine.base if keeper.engine else None
+        self.base_rows.set(0 if base is None else base.head.rows)
+        self.behind.set(keeper.behind)
+        if keeper.compaction is not None:
+            self.compacting.set(keeper.compaction.seconds)
+            self.compacted_at.set(keeper.compaction.begun / 1000)
+            self.not_compacted.set(1 if keeper.compaction.failure else 0)
+
     async def text(self, keeper: Keeper) -> bytes:
         """All metrics. The counts by batch status are asked for."""
         self.operations.set(keeper.committed)
         self.full.set(keeper.committed / self._most)
         self.leads.set(1 if keeper.role == "leader" else 0)
         self.epoch.set(keeper.epoch)
+        self.set_compaction(keeper)
         self.waiting.set(keeper.term.desk.waiting if keeper.term else 0)
         self.takeover.set(keeper.last_takeover)
         self.executions.clear()

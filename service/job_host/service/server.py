@@ -228,8 +228,10 @@ class Service:
     def _health(self) -> dict[str, object]:
         keeper = self.keeper
         told = {"role": keeper.role, "epoch": keeper.epoch, "operations": keeper.committed, "leader": keeper.leader_url}
-        warns = keeper.committed >= self.settings.history.warn_from
-        return {**told, "warning": "HistoryAlmostFull"} if warns else told
+        if keeper.committed >= self.settings.history.warn_from:
+            return {**told, "warning": "HistoryAlmostFull"}
+        is_failed = keeper.compaction is not None and keeper.compaction.failure
+        return {**told, "warning": "NotCompacted"} if is_failed else told
 
     async def _probe_live(self, request: web.Request) -> web.StreamResponse:
         return web.Response(text="live\n")

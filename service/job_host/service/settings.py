@@ -3,6 +3,7 @@
 from __future__ import annotations
 
 from dataclasses import dataclass, field
+from datetime import time
 from pathlib import Path
 
 from job_host.protocol.addresses import DEFAULT_PORT
@@ -78,6 +79,10 @@ class ServeSettings:
     keep_days: int | None = None
     keep_failed_days: int | None = None
     archive: Path | None = None
+    # The time of each day at which the log is compacted. Without one it is compacted by itself alone.
+    compact_at: time | None = None
+    # Goes on though the file beside the log doesn't know what is before the log's base.
+    forget_keys: bool = False
     bounds: Bounds = field(default_factory=Bounds)
 
     @property

@@ -184,7 +184,23 @@ function fullness(history) {
     facts([
       ["This instance", history.role], ["Epoch", String(history.epoch)],
       ["Leader", history.role === "follower" ? told(history.leader) : ""],
+      ["Log", history.base ? based(history.base) : ""],
+      ["Last compaction", history.compaction ? compacted(history.compaction) : ""],
     ]));
+}
+
+// What the log has in place of operations, and how many stand behind that.
+export function based({ rows, behind }) {
+  const [made, more] = [rows, behind].map((number) => number.toLocaleString("en"));
+  return `a base of ${made} rows, and ${more} operations behind it`;
+}
+
+// When the last compaction began, and what became of it.
+export function compacted({ begun, seconds, isOver, failure }) {
+  if (!isOver) return element("span", {}, when(begun), ": it goes on, and calls wait");
+  const took = `${seconds.toLocaleString("en")} seconds`;
+  return element("span", {}, when(begun), failure ? `: it failed after ${took}: ` : `: calls waited for ${took}`,
+    failure ? told(failure) : null);
 }
 
 // Executions: by batch status, the newest first, with search and pages.

@@ -16,12 +16,19 @@ class Changes:
 
     def __init__(self, most: int = MOST_KNOWN) -> None:
         self._rows: deque[tuple[int, int]] = deque(maxlen=most)
+        self._since = 0
+
+    def begin(self, operation: int) -> None:
+        """Begins behind an operation: what those before it are on isn't known."""
+        self._since = operation
 
     def note(self, operation: int, executions: Iterable[int]) -> None:
         self._rows.extend((operation, execution) for execution in executions)
 
     def between(self, before: int, until: int) -> list[int] | None:
         """The job executions of the operations behind `before`, up to `until`. None if they are too many, or forgotten."""
+        if before < self._since:
+            return None
         found: set[int] = set()
         for operation, execution in reversed(self._rows):
             if operation <= before or len(found) > MOST_NAMED:

@@ -6,7 +6,7 @@ import asyncio
 import json
 from bisect import bisect_left
 from collections import deque
-from collections.abc import Callable, Iterator, Sequence
+from collections.abc import Callable, Iterable, Iterator, Sequence
 from functools import lru_cache
 from typing import Any, NamedTuple
 
@@ -15,10 +15,12 @@ from job_host.catalogue.names import PLAIN_NAMES, JobNames
 from job_host.protocol.lines import LinesDigest, is_accepted, query
 from job_host.service.history.actions import ACTIONS, Action, Actions
 from job_host.service.history.answers import Answers
+from job_host.service.history.base import Base
 from job_host.service.history.causes import FAILED
 from job_host.service.history.changes import MOST_NAMED, Changes
 from job_host.service.history.coprocess import CoProcess, CoProcessEnded
 from job_host.service.history.execution_index import ExecutionIndex
+from job_host.service.history.log_file import Entered, KnownBase
 from job_host.service.history.open_index import OpenIndex
 from job_host.service.history.tags import TAB
 from job_host.service.history.work_items import LOST, Ended, EndedWork, Held
@@ -66,7 +68,7 @@ class Engine:
     """Counts what the co-process enters. `turn` is held by reads of several steps, so that no command comes between them.
 
     `recent` has the last operation that is known to be kept, and all behind it. `is_whole` says that each operation which the
-    co-process was handed by a replay is noted here.
+    co-process was handed by a replay is noted here. `digest` is of the lines behind the base of the log, if it has one.
     """
 
     def __init__(self, process: CoProcess, names: JobNames = PLAIN_NAMES) -> None:
@@ -82,11 +84,12 @@ class Engine:
         self.last_work = 0
         # Also those that failed long ago.
         self.failed_work = EndedWork()
-        self.actions = Actions()
         self.changes = Changes()
         self.executions = ExecutionIndex(self, names)
+        self.actions = Actions(self.executions.numbers)
         self.open = OpenIndex(self, self.executions, self.busy, self.may_restart, names)
         self.recent: deque[Record] = deque()
+        self.base: KnownBase | None = None
         self.digest = LinesDigest()
         self.is_whole = True
         self.looked: Answers | None = None
@@ -98,9 +101,67 @@ class Engine:
 
     def made_between(self, since: int | None, until: int | None) -> tuple[int, int | None]:
         """The numbers of the job executions that were made from a moment on, and before another one."""
-        numbers = range(1, self.executions.last + 1)
-        first = 1 if since is None else 1 + bisect_left(numbers, since, key=self.actions.made_at)
-        return first, None if until is None else bisect_left(numbers, until, key=self.actions.made_at)
+        numbers = self.executions.numbers
+        places = range(1, self.executions.count + 1)
+
+        def before(moment: int) -> int:
+            """How many were made before a moment."""
+            return bisect_left(places, moment, key=lambda place: self.actions.made_at(numbers.number(place)))
+
+        first = 1 if since is None else numbers.number(1 + before(since))
+        return first, None if until is None else numbers.number(before(until))
+
+    @property
+    def based(self) -> int:
+        """How many operations are before the base of the log."""
+        return 0 if self.base is None else self.base.head.operations
+
+    @property
+    def last_made(self) -> int:
+        """The moment at which the last job execution that is there was made."""
+        executions = self.executions
+        numbers = map(executions.numbers.number, range(executions.count, 0, -1))
+        last = next((one for one in numbers if executions.is_there(one)), None)
+        return 0 if last is None else self.actions.made_at(last)
+
+    @property
+    def is_compact(self) -> bool:
+        """Whether no operation stands behind the base of the log. One without a base and without operations is so, too."""
+        return self.entered == self.based
+
+    @property
+    def known(self) -> Entered:
+        """By what the log is known again."""
+        return Entered(self.base, self.entered, self.digest.value())
+
+    def begin(self, base: Base) -> None:
+        """Begins with what the base of a log tells, before anything is entered."""
+        self.note_base(base.known)
+        self.entered, self.last_work = base.head.operations, base.head.work
+        self.last_moment, self.last_session = base.last_moment, base.last_session
+        self.executions.begin(base)
+        self.actions.begin(row.create for row in base.executions)
+        self.changes.begin(self.entered)
+        for held in base.held:
+            self._note_busy(held)
+        for ended in base.ended.in_order():
+            self.ended_work.note(ended)
+        for ended in base.failed.in_order():
+            self.failed_work.note(ended)
+
+    def actions_behind(self, operation: int) -> list[tuple[int, Action]]:
+        """What was done to the job executions that are there, behind an operation."""
+        return [(one, action) for one in self.executions.numbers_there() for action in self.actions.behind(one, operation)]
+
+    def restore_actions(self, actions: Iterable[tuple[int, Action]]) -> None:
+        """What was done to job executions before the base, in the order of the operations, before anything is entered."""
+        for execution, action in actions:
+            if self.executions.is_there(execution):
+                self.actions.note(execution, action)
+
+    def note_base(self, base: KnownBase) -> None:
+        """The log has a base now, which stands for all that was entered."""
+        self.base, self.digest = base, LinesDigest()
 
     def holding(self) -> set[int]:
         """The sessions that hold work items."""
@@ -199,10 +260,13 @@ class Engine:
         if work is None:
             return int(reply["closed"])
         place = (work["work"], work["execution"], work["element"], work.get("partition"))
-        self.held[work["work"]] = Held(*place, told["by"], told["at"])
+        self._note_busy(Held(*place, told["by"], told["at"]))
         self.last_work = max(self.last_work, work["work"])
-        self.busy[work["execution"]] = self.busy.get(work["execution"], 0) + 1
         return int(work["execution"])
+
+    def _note_busy(self, held: Held) -> None:
+        self.held[held.work] = held
+        self.busy[held.execution] = self.busy.get(held.execution, 0) + 1
 
     def note_kept(self, number: int) -> None:
         """Operations up to this one are kept. The last of them stays in `recent`: by it the history is known again."""

@@ -96,7 +96,7 @@ class OpenIndex:
         self._busy = busy
         self._may_restart = may_restart
         self._names = names
-        # Up to this number all were looked at. Of these, the ones that have changed since then.
+        # Up to this place all were looked at. Of these, the ones that have changed since then.
         self._looked = 0
         self._changed: set[int] = set()
         self._lists: dict[tuple[str, str], RisingNumbers] = {}
@@ -107,7 +107,7 @@ class OpenIndex:
         self._settling: asyncio.Task[None] | None = None
 
     def note_changed(self, execution: int) -> None:
-        if execution <= self._looked:
+        if self._executions.numbers.place(execution) <= self._looked:
             self._changed.add(execution)
 
     def settle_soon(self) -> None:
@@ -122,7 +122,7 @@ class OpenIndex:
         None are left only if no operation comes meanwhile: else a few may be, or there would be no end.
         """
         async with self._turn:
-            while len(self._changed) + self._executions.last - self._looked > left:
+            while len(self._changed) + self._executions.count - self._looked > left:
                 block = self._next_block()
                 try:
                     answers = await self._engine.ask([ASK_EXECUTION % one for one in block])
@@ -139,8 +139,8 @@ class OpenIndex:
             self._changed.difference_update(block)
             return block
         first = self._looked + 1
-        self._looked = min(self._looked + BLOCK, self._executions.last)
-        return list(range(first, self._looked + 1))
+        self._looked = min(self._looked + BLOCK, self._executions.count)
+        return self._executions.numbers_at(range(first, self._looked + 1))
 
     def _put(self, execution: int, told: Mapping[str, Any] | None) -> None:
         """Puts a job execution where it belongs. One that was purged belongs nowhere."""

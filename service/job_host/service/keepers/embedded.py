@@ -11,6 +11,7 @@ import sqlite3
 from collections.abc import Awaitable, Callable, Sequence
 from concurrent.futures import ThreadPoolExecutor
 from contextlib import suppress
+from functools import partial
 from typing import TYPE_CHECKING, TypeVar
 
 from job_host.catalogue import growth, jobs
@@ -19,14 +20,18 @@ from job_host.catalogue.jobs import ServedJobs
 from job_host.service.history import log_file
 from job_host.service.history.coprocess import CatalogueRefused, CoProcess, CoProcessEnded
 from job_host.service.history.engine import Engine
-from job_host.service.history.log_file import OtherLog, Search
+from job_host.service.history.log_file import Beginning, KnownBase, OtherLog, Search
+from job_host.service.keepers.beside_base import BesideBase
+from job_host.service.keepers.compacting import COMPACT, Compacting, rest_of
+from job_host.service.keepers.due import Due
 from job_host.service.keepers.embedded_term import Beside, EmbeddedTerm
-from job_host.service.keepers.keeper import Fatal, Keeper, check_catalogue, first_of, needed
+from job_host.service.keepers.exchange import END_SECONDS, exchange
+from job_host.service.keepers.keeper import Compaction, Fatal, Keeper, check_catalogue, first_of, needed
 from job_host.service.keepers.noting import Noting
 from job_host.service.keepers.replayed_log import ReplayedLog
 from job_host.service.problems import Problem, unavailable
 from job_host.service.settings import ServeSettings
-from job_host.service.stores.beside_files import STORE_NAME, open_store
+from job_host.service.stores.beside_files import STORE_NAME
 from job_host.service.stores.private_folder import make_private
 from job_host.service.stores.sqlite import SqliteStore, refuse_later_file
 from job_host.service.stores.versions import LaterVersion
@@ -49,8 +54,6 @@ PRUNE_SECONDS = 3_600.0
 # How many keys are dropped at a time, so that calls needn't wait for all.
 PRUNED = 5_000
 IN_USE_SECONDS = 10.0
-# A batchctl that is to end has so long.
-END_SECONDS = 60.0
 LOG_NAME = "history.log"
 
 # The catalogue to try next, after batchctl has refused one.
@@ -67,6 +70,10 @@ class EmbeddedKeeper(Keeper):
         self._file = served.line
         self._log = settings.data / LOG_NAME
         self._replayed = ReplayedLog(settings.batchctl, self._log, self.names)
+        self._before_base = BesideBase(settings.data, self._log, settings.forget_keys)
+        self._base: KnownBase | None = None
+        due = Due(settings.compact_at)
+        self._compacting = Compacting(settings.batchctl, self._log, leases, due, self._reopen_compact, self._note_compaction)
         self._sessions = Sessions({}, settings.bounds.clients)
         self._beside: Beside | None = None
         self._process: CoProcess | None = None
@@ -95,6 +102,11 @@ class EmbeddedKeeper(Keeper):
             with suppress(asyncio.TimeoutError):
                 await asyncio.wait_for(self._closing.wait(), RETRY)
 
+    async def _check_compact(self) -> None:
+        """Raises Fatal if the log is to be compacted, and batchctl can't do that."""
+        if self._settings.compact_at is not None and not await self._compacting.can():
+            raise Fatal(f"{self._settings.batchctl[0]} has no `script --compact`, which --compact-at needs")
+
     async def _serve_once(self) -> None:
         """Serves until something fails. What fails throws the co-process away. The engine goes on with another one."""
         self.role = "starting"
@@ -103,7 +115,7 @@ class EmbeddedKeeper(Keeper):
         thread = ThreadPoolExecutor(1, "beside")
         store: SqliteStore | None = None
         try:
-            store = self._open_store()
+            store = self._open_store(await asyncio.to_thread(log_file.beginning_of, self._log))
             beside = self._beside = Beside(store, thread)
             self.engine = await self._bring_on(process, beside)
             await self._lead(self.engine, beside)
@@ -125,16 +137,24 @@ class EmbeddedKeeper(Keeper):
             log.warning(
                 "%s knows operations that aren't so in %s: what it knows is read out of the log again", store, self._log
             )
-            await beside.do(lambda store: store.forget_log())
+            if self._base is None:
+                await beside.do(lambda store: store.forget_log())
+            else:
+                await self._before_base.forget(beside, self._base)
             return await self._noting(process, beside)
 
     async def _noting(self, process: CoProcess, beside: Beside) -> Engine:
+        base = self._base
+        if base is not None:
+            await self._before_base.begin(beside, base)
         noted, requests = await beside.do(lambda store: (store.noted(), store.open_requests()))
         noting = Noting(process, beside, requests, self._settings.bounds.days_of_keys)
         search = Search(noted.operations, noted.line, frozenset(request.line for request in requests))
-        engine = await self._replayed.bring_on(process, search, noting.note)
-        await noting.end()
+        engine = await self._replayed.bring_on(process, search, noting.note, partial(self._before_base.restore, beside))
+        await noting.end(engine.based)
         await beside.do(lambda store: store.drop_unseen(engine.entered, engine.last_work))
+        if base is not None:
+            await self._before_base.end(beside, engine, base)
         return engine
 
     def _refuse_later(self) -> None:
@@ -142,10 +162,11 @@ class EmbeddedKeeper(Keeper):
         with suppress(sqlite3.Error):
             refuse_later_file(self._settings.data / STORE_NAME)
 
-    def _open_store(self) -> SqliteStore:
+    def _open_store(self, beginning: Beginning) -> SqliteStore:
         """The store beside the log. One that is damaged ends the service."""
+        self._base = beginning.base
         try:
-            return open_store(self._settings.data, log_file.beginning_of(self._log))
+            return self._before_base.open(beginning)
         except sqlite3.DatabaseError as fault:
             if isinstance(fault, sqlite3.OperationalError):
                 raise
@@ -162,6 +183,7 @@ class EmbeddedKeeper(Keeper):
     async def _start(self) -> CoProcess:
         """The co-process over its log, whose jobs may be in another order: then they are put into that order."""
         await check_catalogue(self._settings.batchctl, self.served)
+        await self._check_compact()
         if self._jobs is None:
             return await self._open(self._file, self._in_order)
         return await self._start_jobs(self._jobs)
@@ -198,12 +220,12 @@ class EmbeddedKeeper(Keeper):
             raise Fatal(f"{self._log}: {refused}") from refused
         return self.book.line
 
-    async def _open(self, catalogue: bytes, arrange: Arrange) -> CoProcess:
-        """Opens the log. One that is still in use by a program that ends is waited for.
+    async def _open(self, catalogue: bytes, arrange: Arrange, *more: str) -> CoProcess:
+        """Opens the log, with more words if there are some. One that is still in use by a program that ends is waited for.
 
         batchctl looks at the file first. If it is whole and has other jobs, another catalogue is tried.
         """
-        words = [*self._settings.batchctl, "script", "--log", str(self._log), "--tags"]
+        words = [*self._settings.batchctl, "script", "--log", str(self._log), "--tags", *more]
         for _ in range(int(IN_USE_SECONDS / RETRY)):
             try:
                 return await CoProcess.start(words, catalogue)
@@ -248,6 +270,7 @@ class EmbeddedKeeper(Keeper):
             term.desk.watch(),
             self.leases.watch(term),
             self._prune(beside, term),
+            self._compacting.run(term, beside),
             self.watch(engine),
         ]
         try:
@@ -257,6 +280,15 @@ class EmbeddedKeeper(Keeper):
             self.role, self.term, self.engine = "starting", None, None
             term.fail(unavailable("Starting", "this instance ends, or begins again"))
             await self._end_changes()
+            await self._note_rest(beside, term)
+
+    async def _note_rest(self, beside: Beside, term: EmbeddedTerm) -> None:
+        """Notes how the log stands, if all of it is kept, so that it is known again if somebody else compacts it."""
+        engine = term.engine
+        if engine.is_whole and term.committed == engine.entered:
+            rest = rest_of(engine)
+            with suppress(Problem):
+                await beside.do(lambda store: store.note_rest(rest))
 
     def _begin_changes(self, term: EmbeddedTerm) -> None:
         """From now on jobs may change, if they are those of a folder."""
@@ -274,25 +306,26 @@ class EmbeddedKeeper(Keeper):
 
     async def _grow(self, term: EmbeddedTerm, catalogue: bytes) -> None:
         """Lets another co-process go on over the log, with a catalogue that has grown. Lines wait meanwhile."""
-        engine = term.engine
-        async with engine.turn:
+        async with term.engine.turn:
             if term.failure is not None:
                 raise term.failure
-            before = engine.process
-            before.hold()
             try:
-                status = await asyncio.wait_for(before.finish(), END_SECONDS)
-                if status != 0:
-                    raise CoProcessEnded(f"batchctl ended with status {status}: {before.errors}", status)
-                self._process = await asyncio.wait_for(self._open(catalogue, self._refuse), END_SECONDS)
-            except BaseException as fault:
-                before.give_up()
-                await before.close()
-                if isinstance(fault, (CoProcessEnded, Fatal, asyncio.TimeoutError)):
-                    raise unavailable("CoProcessEnded", f"the change may have been kept: {fault}") from fault
-                raise
-            engine.process = self._process
-            before.go_on_in(self._process)
+                await exchange(term.engine, lambda: self._reopen(catalogue))
+            except (CoProcessEnded, Fatal, asyncio.TimeoutError) as fault:
+                raise unavailable("CoProcessEnded", f"the change may have been kept: {fault}") from fault
+
+    async def _reopen(self, catalogue: bytes) -> CoProcess:
+        """The co-process that goes on over the log."""
+        self._process = await asyncio.wait_for(self._open(catalogue, self._refuse), END_SECONDS)
+        return self._process
+
+    async def _reopen_compact(self, catalogue: bytes) -> CoProcess:
+        """The co-process that goes on over the log, after it has compacted it."""
+        self._process = await self._open(catalogue, self._refuse, COMPACT)
+        return self._process
+
+    def _note_compaction(self, one: Compaction) -> None:
+        self.compaction = one
 
     async def _refuse(self, given: bytes, refused: CatalogueRefused) -> bytes:
         raise Fatal(f"{self._log}: {refused}") from refused

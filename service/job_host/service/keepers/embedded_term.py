@@ -58,10 +58,14 @@ class EmbeddedTerm(Term):
 
     def item_of(self, call: Call) -> Item:
         item = super().item_of(call)
-        history = "" if self.engine.entered else self._history
+        history = self._history if self.engine.is_compact else ""
         if call.key is not None or history or item.session not in self._named_sessions:
             item.tag = Tag(call.client, call.key, call.fingerprint, call.is_once, history).written()
         return item
+
+    def note_compacted(self) -> None:
+        """The log names no session any more."""
+        self._named_sessions = {SERVICE_SESSION}
 
     def note_accepted(self, client: str, session: int) -> None:
         super().note_accepted(client, session)

@@ -63,6 +63,16 @@ class HeldPage:
         return self.page.of([one for one in found if self.execution in (None, one.execution)])
 
 
+@dataclass(frozen=True)
+class Compaction:
+    """A compaction of the log: the moment at which it began, how many seconds calls waited, and why it failed if it did."""
+
+    begun: int
+    seconds: float = 0.0
+    failure: str = ""
+    is_over: bool = False
+
+
 class Fatal(Exception):
     """The service can't go on: a person has to look. The text says why."""
 
@@ -85,6 +95,8 @@ class Keeper(ABC):
         self.names = PLAIN_NAMES if served.files is None else VERSIONED_NAMES
         self.book: JobBook | None = None
         self.changes: JobChanges | None = None
+        # The last compaction that was tried, or is under way. A history in PostgreSQL has none.
+        self.compaction: Compaction | None = None
 
     @abstractmethod
     async def run(self) -> None:
@@ -178,6 +190,11 @@ class Keeper(ABC):
         """How many operations are kept, which anybody may be told of. A follower reads none but those."""
         return self.operations if self.term is None else self.term.committed
 
+    @property
+    def behind(self) -> int:
+        """How many operations stand behind the base of the log, or in all, if it has none."""
+        return max(0, self.committed - (self.engine.based if self.engine is not None else 0))
+
     def leading(self) -> Term:
         if self.term is None:
             if self.role == "follower":
@@ -235,9 +252,9 @@ class Keeper(ABC):
 
     async def of_purged(self, once: Mapping[str, bytes]) -> dict[str, bytes]:
         """Those of these keys that say once, with their first replies, whose job instance a purge has removed."""
-        executions = {key: int(read(reply)["execution"]) for key, reply in once.items()}
+        executions = {key: int(told["execution"]) for key, reply in once.items() if "execution" in (told := read(reply))}
         gone = set(await self.purged(list(executions.values())))
-        return {key: reply for key, reply in once.items() if executions[key] in gone}
+        return {key: once[key] for key, execution in executions.items() if execution in gone}
 
     async def held_work(self, wanted: HeldPage, at_least: int) -> tuple[list[HeldBy], int]:
         """Who holds which work item since when, and how many operations that saw."""

@@ -13,7 +13,7 @@ from job_host.service.history.tags import Tag, read_tag
 from job_host.service.keepers.embedded_term import Beside
 from job_host.service.keepers.replayed_log import Told
 from job_host.service.stores.sqlite import Noted, Notes, OpenRequest, Request
-from job_host.service.terms.calls import EVERYBODY_SESSION, SERVICE, Kept
+from job_host.service.terms.calls import EVERYBODY_SESSION, REPLY_NOT_KEPT, SERVICE, Kept
 from job_host.service.terms.follow_ups import follow_ups
 
 log = logging.getLogger(__name__)
@@ -70,8 +70,12 @@ class Noting:
     async def _settle(self, request: OpenRequest, kept: Kept | None) -> None:
         await self._beside.do(lambda store: store.settle(request, kept))
 
-    async def end(self) -> None:
-        """Forgets the keys whose operations aren't in the log: nobody was told a reply."""
+    async def end(self, based: int) -> None:
+        """Forgets the keys whose operations aren't in the log: nobody was told a reply.
+
+        If so many operations are before its base, they may be among these: then their calls count as made.
+        """
+        kept = Kept(REPLY_NOT_KEPT, (), based) if based else None
         for request in self._open.values():
-            await self._settle(request, None)
+            await self._settle(request, kept)
         self._open.clear()

@@ -1,27 +1,35 @@
 """The log of an embedded service, and the engine that knows what its operations are on.
 
-batchctl doesn't keep its replies: another batchctl, which is handed the log's lines, gives them again. The engine outlives its
-batchctl. So after a new start only those operations are looked at that it hadn't heard of.
+batchctl doesn't keep its replies: another batchctl, which is handed the log's lines, gives them again. If the log has a base,
+that begins with a copy of it, and is handed the lines behind it. The engine outlives its batchctl. So after a new start only
+those operations are looked at that it hadn't heard of.
 """
 
 from __future__ import annotations
 
 import asyncio
 import logging
+import shutil
 from collections.abc import AsyncIterator, Awaitable, Callable, Iterable, Sequence
+from contextlib import asynccontextmanager
 from pathlib import Path
 from typing import NamedTuple
 
 from job_host.catalogue.names import PLAIN_NAMES, JobNames
 from job_host.service.history import log_file
 from job_host.service.history.answers import Answers
+from job_host.service.history.base import read_base
 from job_host.service.history.coprocess import CoProcess
 from job_host.service.history.engine import STATE, Engine
 from job_host.service.history.log_file import Found, Search
 from job_host.service.history.tags import lines_of
 from job_host.service.keepers.keeper import Fatal
+from job_host.service.stores.private_folder import make_private
 
 log = logging.getLogger(__name__)
+
+# The folder beside a log in which another batchctl begins with a copy of its base.
+COPY_FOLDER = "replay"
 
 
 class Told(NamedTuple):
@@ -33,6 +41,8 @@ class Told(NamedTuple):
 
 # What is done with operations that were looked for, some hundreds at a time, by rising number.
 Note = Callable[[list[Told]], Awaitable[None]]
+# What is done with an engine that knows the base of the log, and nothing behind it.
+Begun = Callable[[Engine], Awaitable[None]]
 
 
 # What was kept, and the lines of that.
@@ -68,12 +78,14 @@ class ReplayedLog:
         engine.note_kept(engine.entered)
         self._kept = engine
 
-    async def bring_on(self, process: CoProcess, search: Search, note: Note) -> Engine:
+    async def bring_on(self, process: CoProcess, search: Search, note: Note, begun: Begun) -> Engine:
         """An engine that goes on with a batchctl that has opened the log. What is looked for is handed to `note`.
 
         Raises OtherLog if the log lacks what is noted.
         """
         engine, told = await self._known(process, search)
+        if engine is not self._kept and engine.base is not None:
+            await begun(engine)
         if told is None:
             await self._replay(engine, process, search, note)
         elif told:
@@ -86,7 +98,7 @@ class ReplayedLog:
         knows all of the log, and the replies to that."""
         engine = self._kept
         if engine is not None and engine.is_whole:
-            seen = await asyncio.to_thread(log_file.compare, self._path, engine.entered, engine.digest.value(), search)
+            seen = await asyncio.to_thread(log_file.compare, self._path, engine.known, search)
             replies = {record.number: record.reply for record in engine.recent}
             told = [Told(one, replies[one.number]) for one in seen.found if one.number in replies]
             knows_all = seen.behind == 0 and len(told) == len(seen.found) and engine.state is not None
@@ -94,13 +106,19 @@ class ReplayedLog:
                 return engine, told if knows_all else None
             log.warning("%s isn't what was entered before: all of it is replayed", self._path)
         self._kept = None
-        return Engine(process, self._names), None
+        return await self._begun(process), None
+
+    async def _begun(self, process: CoProcess) -> Engine:
+        """A new engine, which knows the base of the log if there is one."""
+        engine, base = Engine(process, self._names), await asyncio.to_thread(read_base, self._path)
+        if base is not None:
+            engine.begin(base)
+        return engine
 
     async def _replay(self, engine: Engine, process: CoProcess, search: Search, note: Note) -> None:
-        """Hands all lines to another batchctl, and enters those behind the engine's."""
-        replayer = await CoProcess.start(self._words, process.catalogue)
-        number = 0
-        try:
+        """Hands the lines behind the base to another batchctl, and enters those behind the engine's."""
+        number = engine.based
+        async with self._replaying(engine, process) as replayer:
             async for (kept, lines), replies in answered(replayer, log_file.operations(self._path)):
                 found = search.found(number, kept)
                 known = max(0, engine.entered - number)
@@ -113,8 +131,30 @@ class ReplayedLog:
             theirs = await process.ask_all(STATE)
             _compare(theirs, await replayer.ask_all(STATE))
             engine.looked = Answers(theirs, engine.entered)
+
+    @asynccontextmanager
+    async def _replaying(self, engine: Engine, process: CoProcess) -> AsyncIterator[CoProcess]:
+        """Another batchctl, which begins as the log does."""
+        folder = self._path.parent / COPY_FOLDER
+        words = self._words
+        try:
+            if engine.base is not None:
+                words = [*words, "--log", str(await asyncio.to_thread(self._copied, folder)), "--tags"]
+            replayer = await CoProcess.start(words, process.catalogue)
+            try:
+                yield replayer
+            finally:
+                await replayer.close()
         finally:
-            await replayer.close()
+            await asyncio.to_thread(shutil.rmtree, folder, ignore_errors=True)
+
+    def _copied(self, folder: Path) -> Path:
+        """A copy of the log up to the end of its base. One that a crash has left is replaced."""
+        shutil.rmtree(folder, ignore_errors=True)
+        make_private(folder)
+        copy = folder / self._path.name
+        log_file.copy_front(self._path, copy)
+        return copy
 
 
 def _compare(theirs: Sequence[bytes], ours: Sequence[bytes]) -> None:

@@ -41,7 +41,7 @@ class Finished(NamedTuple):
 
 
 class FinishedIndex:
-    """The job instances of one engine's history. Numbers in arrays, since there may be hundreds of thousands."""
+    """The job instances of one engine's history, by place. Numbers in arrays, since there may be hundreds of thousands."""
 
     def __init__(self, engine: Engine) -> None:
         self.engine = engine
@@ -52,8 +52,7 @@ class FinishedIndex:
 
     async def look(self) -> None:
         """Asks for what has changed since the last look."""
-        executions = self.engine.executions
-        missing = executions.last_instance + 1 - len(self._seen)
+        missing = self.engine.executions.instance_count + 1 - len(self._seen)
         self._seen.extend([0] * missing)
         self._kinds.extend(bytes(missing))
         self._ends.extend([0] * missing)
@@ -62,30 +61,31 @@ class FinishedIndex:
             await self._ask(changed)
             await asyncio.sleep(0)
 
-    def _has_changed(self, instance: int) -> bool:
+    def _has_changed(self, place: int) -> bool:
         executions = self.engine.executions
+        instance = executions.instance_at(place)
         if not executions.has_instance(instance):
-            self._kinds[instance] = RUNNING
+            self._kinds[place] = RUNNING
             return False
-        return self._seen[instance] != executions.changed_at(executions.newest_of(instance))
+        return self._seen[place] != executions.changed_at(executions.newest_of(instance))
 
-    async def _ask(self, instances: Sequence[int]) -> None:
+    async def _ask(self, places: Sequence[int]) -> None:
         executions = self.engine.executions
-        for place in range(0, len(instances), BLOCK):
-            some = instances[place : place + BLOCK]
-            newest = [executions.newest_of(one) for one in some]
+        for begin in range(0, len(places), BLOCK):
+            some = places[begin : begin + BLOCK]
+            newest = [executions.newest_of(executions.instance_at(one)) for one in some]
             seen = [executions.changed_at(one) for one in newest]
             answers = await self.engine.ask([ASK_EXECUTION % one for one in newest])
             told = json.loads(b"[%b]" % b",".join(answers.replies))
-            for instance, operation, reply in zip(some, seen, told, strict=True):
-                self._put(instance, operation, reply.get("job_execution"))
+            for place, operation, reply in zip(some, seen, told, strict=True):
+                self._put(place, operation, reply.get("job_execution"))
             await asyncio.sleep(REST)
 
-    def _put(self, instance: int, operation: int, told: Mapping[str, Any] | None) -> None:
+    def _put(self, place: int, operation: int, told: Mapping[str, Any] | None) -> None:
         """Notes the newest job execution of a job instance, which may have been purged meanwhile."""
-        self._seen[instance] = operation
-        self._kinds[instance] = RUNNING if told is None else self._kind(told)
-        self._ends[instance] = 0 if told is None else self._end(told)
+        self._seen[place] = operation
+        self._kinds[place] = RUNNING if told is None else self._kind(told)
+        self._ends[place] = 0 if told is None else self._end(told)
 
     def _kind(self, told: Mapping[str, Any]) -> int:
         if told["status"] in UNFINISHED:
@@ -110,13 +110,14 @@ class FinishedIndex:
             await asyncio.sleep(0)
         return oldest, count
 
-    def _is_due(self, instance: int, over_before: int | None, restartable_before: int | None) -> bool:
-        kind = self._kinds[instance]
+    def _is_due(self, place: int, over_before: int | None, restartable_before: int | None) -> bool:
+        kind = self._kinds[place]
         bound = restartable_before if kind == MAY_RESTART else over_before
-        if kind == RUNNING or bound is None or self._ends[instance] > bound:
+        if kind == RUNNING or bound is None or self._ends[place] > bound:
             return False
-        return self.engine.executions.has_instance(instance)
+        executions = self.engine.executions
+        return executions.has_instance(executions.instance_at(place))
 
-    def _finished(self, instance: int) -> Finished:
-        execution = self.engine.executions.newest_of(instance)
-        return Finished(self._ends[instance], instance, execution, self._seen[instance])
+    def _finished(self, place: int) -> Finished:
+        instance = self.engine.executions.instance_at(place)
+        return Finished(self._ends[place], instance, self.engine.executions.newest_of(instance), self._seen[place])

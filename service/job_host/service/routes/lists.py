@@ -19,7 +19,7 @@ from job_host.service.history.execution_index import Wanted
 from job_host.service.history.work_items import Ended
 from job_host.service.http.requests import PAGE_WORDS, Asked, Route
 from job_host.service.keepers.details import Details, details_of
-from job_host.service.keepers.keeper import HeldBy, Steps
+from job_host.service.keepers.keeper import Compaction, HeldBy, Keeper, Steps
 from job_host.service.pages import USUAL_SIZE
 from job_host.service.problems import Problem, bad_request, of_refusal
 from job_host.service.routes import views
@@ -266,8 +266,25 @@ async def show_history(asked: Asked) -> web.StreamResponse:
         "role": keeper.role,
         "epoch": keeper.epoch,
         "leader": keeper.leader_url,
+        "base": base_of(keeper),
+        "compaction": None if keeper.compaction is None else compaction(keeper.compaction),
     }
     return web.json_response(told)
+
+
+def base_of(keeper: Keeper) -> dict[str, int] | None:
+    """The base of the log: the operations before it, its rows, and the operations behind it."""
+    base = keeper.engine.base if keeper.engine is not None else None
+    return None if base is None else {"operations": base.head.operations, "rows": base.head.rows, "behind": keeper.behind}
+
+
+def compaction(one: Compaction) -> dict[str, Any]:
+    return {
+        "begun": moment(one.begun),
+        "seconds": round(one.seconds, 3),
+        "isOver": one.is_over,
+        "failure": one.failure or None,
+    }
 
 
 async def show_caller(asked: Asked) -> web.StreamResponse:

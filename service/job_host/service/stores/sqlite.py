@@ -18,7 +18,9 @@ from dataclasses import dataclass, field
 from pathlib import Path
 from typing import Any
 
-from job_host.service.history.log_file import Beginning
+from job_host.service.history.actions import Action
+from job_host.service.history.log_file import Beginning, KnownBase
+from job_host.service.stores.history import History, Rest, history_in
 from job_host.service.stores.sqlite_schema import migrate, refuse_later
 from job_host.service.terms.calls import (
     EVERYBODY_SESSION,
@@ -122,25 +124,10 @@ class Notes:
         return not self.requests and not self.clients and not self.logs and self.first is None
 
 
-@dataclass(frozen=True)
-class History:
-    """The history to which a file belongs: its identity, and how it begins, as far as that was known."""
-
-    identity: str
-    beginning: Beginning
-
-
 def words_of(wanted: LogPage) -> dict[str, Any]:
     """The words of a statement that finds logs."""
     words = {"execution": wanted.execution, "element": wanted.element, "search": wanted.search}
     return {**words, **wanted.page._asdict()}
-
-
-def history_in(connection: sqlite3.Connection) -> History | None:
-    if connection.execute("select 1 from sqlite_master where name = 'history'").fetchone() is None:
-        return None
-    row = connection.execute("select identity, catalogue, first from history").fetchone()
-    return None if row is None else History(row[0], Beginning(row[1], row[2]))
 
 
 def refuse_later_file(path: Path) -> None:
@@ -215,6 +202,12 @@ class SqliteStore:
         row = self._connection.execute("select name from client where session = ?", (session,)).fetchone()
         return None if row is None else str(row[0])
 
+    def name_unknown(self, sessions: Sequence[int]) -> None:
+        """Names clients that nobody knows any more: no client can have such a name."""
+        with self._connection:
+            self._connection.execute("begin")
+            self._connection.executemany(CLIENT, [(f"?{one}", one) for one in sessions])
+
     def note_heard(self, sessions: Sequence[int]) -> None:
         """Keeps that these clients were heard until now."""
         now = time.time()
@@ -251,6 +244,56 @@ class SqliteStore:
             if notes.last is not None:
                 self._connection.execute(NOTED, (notes.last.operations, notes.last.line))
 
+    def last_action(self) -> int:
+        """The last operation by which something was done to a job execution, of those that are kept here."""
+        return int(self._connection.execute("select max(operation) from action").fetchone()[0] or 0)
+
+    def actions(self, operations: int) -> list[tuple[int, Action]]:
+        """What was done by the first so many operations, each with its job execution, in their order."""
+        statement = "select execution, operation, name, session, moment, of from action where operation <= ? order by operation"
+        return [(row[0], Action(*row[1:])) for row in self._connection.execute(statement, (operations,))]
+
+    def note_actions(self, actions: Sequence[tuple[int, Action]], gone: Sequence[int]) -> None:
+        """Keeps what was done to job executions, and forgets it of those that are gone."""
+        with self._connection:
+            self._connection.execute("begin")
+            rows = [(execution, *action) for execution, action in actions]
+            self._connection.executemany("insert or replace into action values (?, ?, ?, ?, ?, ?)", rows)
+            self._connection.executemany("delete from action where execution = ?", [(one,) for one in gone])
+
+    def note_rest(self, rest: Rest) -> None:
+        """Keeps how the log stands, all of which is noted. At the end this is on the disk, with what was noted before."""
+        self._connection.execute("insert or replace into rest values (1, ?, ?, ?, ?, ?)", rest)
+
+    def note_base(self, base: KnownBase, session: int) -> None:
+        """Keeps by what the base of the log is known, unless it is kept already. No session above this one is known."""
+        greatest = self._connection.execute("select max(session) from client").fetchone()[0] or 0
+        row = (base.head.operations, base.digest, max(session, greatest))
+        self._connection.execute("insert or ignore into base values (?, ?, ?)", row)
+
+    def forget_behind(self, base: KnownBase) -> bool:
+        """Forgets what was noted of a log behind its base, and the sessions that weren't known then. Logs of work items stay.
+
+        Returns whether this file knows the base. If not, nothing is forgotten.
+        """
+        count = base.head.operations
+        with self._connection:
+            self._connection.execute("begin")
+            row = self._connection.execute(
+                "select session from base where operations = ? and digest = ?", (count, base.digest)
+            ).fetchone()
+            if row is None:
+                return False
+            words = {"count": count, "session": row[0], "everybody": EVERYBODY_SESSION}
+            statement = "delete from request where seen > :count or (session > :session and session <> :everybody)"
+            self._connection.execute(statement, words)
+            self._connection.execute("delete from action where operation > :count", words)
+            self._connection.execute("delete from base where operations > :count", words)
+            for table in ("client", "client_heard"):
+                self._connection.execute(f"delete from {table} where session > :session", words)
+            self._connection.execute(NOTED, (count, ""))
+            return True
+
     @contextmanager
     def _syncing(self, is_waited_for: bool) -> Iterator[None]:
         """Commits within the block wait for the disk, or not. A later commit that waits for it waits for theirs, too."""
@@ -267,7 +310,7 @@ class SqliteStore:
         """Forgets what was noted of a log, and the replies to refused calls. Logs of work items stay."""
         with self._connection:
             self._connection.execute("begin")
-            for table in ("request", "client", "client_heard", "noted"):
+            for table in ("request", "client", "client_heard", "noted", "rest", "base", "action"):
                 self._connection.execute(f"delete from {table}")
 
     def open_requests(self) -> list[OpenRequest]:

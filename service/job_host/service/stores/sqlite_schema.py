@@ -57,8 +57,42 @@ create table if not exists noted (
 )
 """,
 )
+# The bases that the log had, each with the greatest session that was known then; how the log stood when it was ended, or was
+# to be compacted; and who did what to job executions before the base.
+THIRD = (
+    """
+create table if not exists base (
+    operations integer not null,
+    digest text not null,
+    session integer not null,
+    primary key (operations, digest)
+) without rowid
+""",
+    """
+create table if not exists rest (
+    one integer primary key check (one = 1),
+    operations integer not null,
+    execution integer not null,
+    instance integer not null,
+    work integer not null,
+    made integer not null
+)
+""",
+    """
+create table if not exists action (
+    execution integer not null,
+    operation integer not null,
+    name text not null,
+    session integer not null,
+    moment integer not null,
+    of integer not null,
+    primary key (execution, operation)
+) without rowid
+""",
+    "create index if not exists action_operation on action (operation)",
+)
 # The statements that bring each version to the next one. They are never changed: a later version has statements of its own.
-MIGRATIONS: list[Iterable[str]] = [FIRST, SECOND]
+MIGRATIONS: list[Iterable[str]] = [FIRST, SECOND, THIRD]
 
 
 def version_of(connection: sqlite3.Connection) -> int:

@@ -13,6 +13,8 @@ from job_host.service.versions.changes import Growth
 
 SERVICE = ""
 SERVICE_SESSION = 1
+# Stands for the reply to a request key whose call may be one of those before the base of the log.
+REPLY_NOT_KEPT = b'{"refused":"ReplyNotKept"}'
 # No client's session: keys that say once stand under it, as they are for all clients.
 EVERYBODY_SESSION = 0
 

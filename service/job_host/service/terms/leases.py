@@ -4,7 +4,8 @@ from __future__ import annotations
 
 import asyncio
 import time
-from collections.abc import Iterable
+from collections.abc import Iterable, Iterator
+from contextlib import contextmanager
 
 from job_host.service.terms.term import Term
 
@@ -14,15 +15,30 @@ LATE_PART = 0.5
 
 
 class Leases:
-    """The moments at which leases run out, by a clock that only rises. All of them begin anew with a term."""
+    """The moments at which leases run out, by a clock that only rises, and rests in a pause. All begin anew with a term."""
 
     def __init__(self, seconds: float) -> None:
         self.seconds = seconds
         self._ends: dict[int, float] = {}
-        self._last_look = time.monotonic()
+        self._paused = 0.0
+        self._paused_at: float | None = None
+        self._last_look = self.now()
+
+    def now(self) -> float:
+        return (time.monotonic() if self._paused_at is None else self._paused_at) - self._paused
+
+    @contextmanager
+    def pausing(self) -> Iterator[None]:
+        """Within the block no lease grows older: calls wait, so a worker may have reported that isn't heard yet."""
+        self._paused_at = time.monotonic()
+        try:
+            yield
+        finally:
+            self._paused += time.monotonic() - self._paused_at
+            self._paused_at = None
 
     def renew(self, work: int) -> None:
-        self._ends[work] = time.monotonic() + self.seconds
+        self._ends[work] = self.now() + self.seconds
 
     def over(self, held: Iterable[int], now: float) -> list[int]:
         """The busy work items whose lease has run out. One that is seen for the first time has a whole lease.
@@ -36,21 +52,22 @@ class Leases:
         return [work for work, end in ends.items() if end <= now]
 
     def remaining(self, work: int) -> float:
-        return max(0.0, self._ends.get(work, time.monotonic() + self.seconds) - time.monotonic())
+        now = self.now()
+        return max(0.0, self._ends.get(work, now + self.seconds) - now)
 
     def late(self, held: Iterable[int]) -> list[int]:
         """Those of these work items whose lease is late."""
-        bound = time.monotonic() + self.seconds * LATE_PART
+        bound = self.now() + self.seconds * LATE_PART
         return [work for work in held if self._ends.get(work, bound) < bound]
 
     async def watch(self, term: Term) -> None:
         """Loses what has run out, for ever. Raises the problem by which the term failed."""
         self._ends.clear()
-        self._last_look = time.monotonic()
+        self._last_look = self.now()
         while True:
             await asyncio.sleep(TICK)
             await self._lose_over(term)
 
     async def _lose_over(self, term: Term) -> None:
-        for work in self.over(list(term.engine.held), time.monotonic()):
+        for work in self.over(list(term.engine.held), self.now()):
             await term.lose(work)

@@ -14,7 +14,7 @@ from job_host.protocol.lines import command, is_accepted, query, read, refusal_o
 from job_host.service.history.answers import Answers
 from job_host.service.history.engine import Engine
 from job_host.service.problems import Problem, unavailable
-from job_host.service.terms.calls import EVERYBODY_SESSION, SERVICE, Call, Item, Kept, KeptRequest, WorkLog
+from job_host.service.terms.calls import EVERYBODY_SESSION, REPLY_NOT_KEPT, SERVICE, Call, Item, Kept, KeptRequest, WorkLog
 from job_host.service.terms.claims import ClaimDesk, ClaimWithdrawn
 from job_host.service.terms.follow_ups import follow_ups
 from job_host.service.terms.moments import Moments
@@ -118,11 +118,18 @@ class Term(ABC):
                 return await self._perform(call)
             if found.fingerprint != call.fingerprint:
                 raise key_reused()
+            if found.kept.reply == REPLY_NOT_KEPT:
+                raise Problem(
+                    "ReplyNotKept", 409, "a call with this key may stand before the base of the log: it isn't made again"
+                )
             return found.kept
 
     async def _is_purged(self, started: Kept) -> bool:
         """Whether the job instance that a start made is there no more."""
-        answers = await self.ask([query("job_instance", execution=started.told()["execution"])])
+        execution = started.told().get("execution")
+        if execution is None:
+            return False
+        answers = await self.ask([query("job_instance", execution=execution)])
         return refusal_of(read(answers.replies[0])) is not None
 
     async def _perform(self, call: Call) -> Kept:

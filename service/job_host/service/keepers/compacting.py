@@ -1,0 +1,178 @@
+"""Compacting the log: batchctl makes it anew of the rows that exist, while calls wait."""
+
+from __future__ import annotations
+
+import asyncio
+import logging
+import subprocess
+import time
+from collections.abc import Awaitable, Callable, Sequence
+from dataclasses import replace
+from functools import partial
+from pathlib import Path
+
+from job_host.service.history import log_file
+from job_host.service.history.coprocess import CoProcess, CoProcessEnded
+from job_host.service.history.engine import STATE, Engine
+from job_host.service.keepers.due import Due
+from job_host.service.keepers.embedded_term import Beside, EmbeddedTerm
+from job_host.service.keepers.exchange import exchange
+from job_host.service.keepers.keeper import Compaction, Fatal
+from job_host.service.stores.history import Rest
+from job_host.service.stores.sqlite import SqliteStore
+from job_host.service.terms import moments
+from job_host.service.terms.leases import Leases
+
+log = logging.getLogger(__name__)
+
+LOOK_SECONDS = 1.0
+# A compaction takes about two openings of the log. One that takes longer is ended.
+MOST_SECONDS = 3_600.0
+COMPACT = "--compact"
+# What batchctl writes on standard error if it goes on over the log as it was, and how long that may take to be heard.
+NOT_COMPACTED = "the log is not compacted"
+REASON_SECONDS = 1.0
+
+# Opens the log with a catalogue, and lets it be compacted before.
+Reopen = Callable[[bytes], Awaitable[CoProcess]]
+
+
+def can_compact(batchctl: Sequence[str]) -> bool:
+    """Whether the program knows the option."""
+    told = subprocess.run([*batchctl, "script", "--help"], stdin=subprocess.DEVNULL, capture_output=True, check=False)
+    return COMPACT.encode() in told.stdout
+
+
+def rest_of(engine: Engine) -> Rest:
+    """How the log of an engine stands."""
+    executions = engine.executions
+    return Rest(engine.entered, executions.last, executions.last_instance, engine.last_work, engine.last_made)
+
+
+async def note_all(engine: Engine, beside: Beside) -> None:
+    """Notes beside the log what its base doesn't tell. All that was entered is kept, and nothing is entered meanwhile."""
+    since = await beside.do(SqliteStore.last_action)
+    actions = await asyncio.to_thread(engine.actions_behind, since)
+    gone, rest = engine.executions.numbers_purged(), rest_of(engine)
+    await beside.do(lambda store: store.note_actions(actions, gone))
+    await beside.do(lambda store: store.note_rest(rest))
+
+
+class Compacting:
+    """The compactions of one log. `note` is told of each as it begins, and as it ends."""
+
+    def __init__(
+        self,
+        batchctl: Sequence[str],
+        path: Path,
+        leases: Leases,
+        due: Due,
+        reopen: Reopen,
+        note: Callable[[Compaction], None],
+    ) -> None:
+        self._batchctl = batchctl
+        self._path = path
+        self._leases = leases
+        self._due = due
+        self._reopen = reopen
+        self._note = note
+        self._turn = asyncio.Lock()
+        self._can: bool | None = None
+
+    async def can(self) -> bool:
+        """Whether batchctl can compact a log."""
+        if self._can is None:
+            self._can = await asyncio.to_thread(can_compact, self._batchctl)
+            if not self._can:
+                log.warning("this batchctl has no `script --compact`, so %s isn't compacted", self._path)
+        return self._can
+
+    async def run(self, term: EmbeddedTerm, beside: Beside) -> None:
+        """Compacts the log whenever it is due, for ever. Raises what ends the term."""
+        while True:
+            await asyncio.sleep(LOOK_SECONDS)
+            if self._due.is_now(term.engine) and await self.can():
+                await self.compact(term, beside)
+
+    async def compact(self, term: EmbeddedTerm, beside: Beside) -> Compaction:
+        """Compacts the log of a term, and returns what became of it. Raises what ends the term."""
+        async with self._turn:
+            self._due.note_tried()
+            one, begun = Compaction(moments.clock()), time.monotonic()
+            self._note(one)
+            try:
+                async with term.engine.turn:
+                    begun = time.monotonic()
+                    with self._leases.pausing():
+                        failure = await self._compact(term, beside)
+            except BaseException as fault:
+                told = "the service ends" if isinstance(fault, asyncio.CancelledError) else f"{type(fault).__name__}: {fault}"
+                self._end(replace(one, seconds=time.monotonic() - begun, failure=told))
+                raise
+            return self._end(replace(one, seconds=time.monotonic() - begun, failure=failure))
+
+    def _end(self, one: Compaction) -> Compaction:
+        one = replace(one, is_over=True)
+        if one.failure:
+            log.error("%s isn't compacted, after %.1f seconds: %s", self._path, one.seconds, one.failure)
+        self._note(one)
+        return one
+
+    async def _compact(self, term: EmbeddedTerm, beside: Beside) -> str:
+        """Returns why the log isn't compacted, if it isn't. All that it has is noted beside it before: it forgets tags."""
+        engine = term.engine
+        if term.failure is not None:
+            raise term.failure
+        state = await engine.ask(STATE)
+        await term.until_committed(engine.entered)
+        if engine.is_compact:
+            return ""
+        await note_all(engine, beside)
+        failure = ""
+
+        async def open_next() -> CoProcess:
+            nonlocal failure
+            process, failure = await self._reopened(engine, state.replies)
+            return process
+
+        await exchange(engine, open_next)
+        if not failure:
+            term.note_compacted()
+            await self._note_base(engine, beside)
+        return failure
+
+    async def _note_base(self, engine: Engine, beside: Beside) -> None:
+        base, session = engine.base, engine.last_session
+        if base is not None:
+            log.warning("%s is compacted: %d rows for %d operations", self._path, base.head.rows, base.head.operations)
+            await beside.do(partial(SqliteStore.note_base, base=base, session=session))
+
+    async def _reopened(self, engine: Engine, state: Sequence[bytes]) -> tuple[CoProcess, str]:
+        """A co-process over the compacted log, or over the log as it was, and then why."""
+        try:
+            process = await asyncio.wait_for(self._reopen(engine.process.catalogue), MOST_SECONDS)
+        except asyncio.TimeoutError as fault:
+            raise CoProcessEnded(f"batchctl didn't compact the log within {MOST_SECONDS:.0f} seconds") from fault
+        try:
+            base = await asyncio.to_thread(log_file.known_base, self._path)
+            if base is None or base.head.operations != engine.entered:
+                return process, await reason(process)
+            after = await process.ask_all(STATE)
+            if after != list(state):
+                raise Fatal(f"the compacted log comes to {after!r}, and it came to {state!r} before")
+        except BaseException:
+            await process.close()
+            raise
+        engine.note_base(base)
+        return process, ""
+
+
+async def reason(process: CoProcess) -> str:
+    """Why a log isn't compacted, as batchctl says on standard error."""
+    until = time.monotonic() + REASON_SECONDS
+    while time.monotonic() < until:
+        told = [line for line in process.errors.splitlines() if NOT_COMPACTED in line]
+        if told:
+            return told[-1]
+        await asyncio.sleep(REASON_SECONDS / 50)
+    return "batchctl gave no reason"
