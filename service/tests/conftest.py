@@ -23,7 +23,7 @@ from job_host.commands.command_line import main  # noqa: E402
 from job_host.commands.program import find_batchctl  # noqa: E402
 from job_host.service.history.coprocess import CoProcess  # noqa: E402
 from job_host.service.history.engine import Engine  # noqa: E402
-from job_host.service.keepers.compacting import can_compact  # noqa: E402
+from job_host.service.keepers.batchctl_compact import can_compact  # noqa: E402
 from job_host.service.server import Service  # noqa: E402
 from job_host.service.settings import Bounds, ServeSettings  # noqa: E402
 
@@ -130,15 +130,32 @@ def embedded(tmp_path: Path, catalogue: Path, has_log: None) -> Callable[..., Se
 
 
 @pytest.fixture(params=["stand_in", "batchctl"])
-def compacting(request: pytest.FixtureRequest, tmp_path: Path, catalogue: Path) -> Callable[..., ServeSettings]:
-    """Settings of a service whose program compacts its log: a stand-in, and batchctl if it can."""
+def compactor(request: pytest.FixtureRequest) -> tuple[str, ...]:
+    """A program that compacts a log: a stand-in, and batchctl if it can."""
     batchctl = (str(STAND_IN),) if request.param == "stand_in" else find_batchctl(None)
     if not can_compact(batchctl):
         pytest.skip("this batchctl has no `script --compact`")
+    return batchctl
+
+
+@pytest.fixture
+def compacting(compactor: tuple[str, ...], tmp_path: Path, catalogue: Path) -> Callable[..., ServeSettings]:
+    """Settings of a service whose program compacts its log."""
 
     def make(**more: Any) -> ServeSettings:
         given: dict[str, Any] = {"port": 0, "lease": 10.0, "data": tmp_path / "data", "catalogue": catalogue, **more}
-        return ServeSettings(batchctl=batchctl, **given)
+        return ServeSettings(batchctl=compactor, **given)
+
+    return make
+
+
+@pytest.fixture
+def basing(compactor: tuple[str, ...], dsn: str, catalogue: Path) -> Callable[..., ServeSettings]:
+    """Settings of a service over PostgreSQL whose program compacts a log."""
+
+    def make(**more: Any) -> ServeSettings:
+        given: dict[str, Any] = {"port": 0, "takeover_after": 1.5, "lease": 10.0, "postgres": (dsn,), **more}
+        return ServeSettings(catalogue=given.pop("catalogue", catalogue), batchctl=compactor, **given)
 
     return make
 

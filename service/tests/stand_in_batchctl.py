@@ -319,6 +319,17 @@ class Log:
             self.restore_record(repository, text[4:5], text[51:-1])
         self.file.truncate(end)
 
+    def fault_in(self) -> Told | None:
+        """The fault of a file whose rows aren't those that its base's head counts."""
+        texts = self.path.read_bytes()[len(HEADER) :].splitlines(keepends=True)
+        based = [(place, text) for place, text in enumerate(texts) if text[4:5] == b"b"]
+        for place, text in based:
+            if not text.endswith(b"\n") or int(text[6:14], 16) != len(text[51:-1]):
+                return {"fault": "LogDamaged", "record": place}
+        if based and json.loads(based[0][1][51:])["base"]["rows"] != len(based) - 1:
+            return {"fault": "LogBadBase", "record": based[-1][0] + 1}
+        return None
+
     def restore_record(self, repository: Repository, mark: bytes, line: bytes) -> None:
         if mark == b"c":
             self.last = line
@@ -380,6 +391,10 @@ def main() -> int:
             log = Log(Path(words[words.index("--log") + 1]))
         except BlockingIOError:
             out.write(b'{"fault":"LogInUse"}\n')
+            return 7
+        fault = log.fault_in()
+        if fault is not None:
+            out.write(written(fault) + b"\n")
             return 7
         log.restore(repository)
         log.begin(catalogue)

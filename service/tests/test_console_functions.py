@@ -359,16 +359,24 @@ PAGES: list[tuple[str, Any]] = [
     (f"warningOf({{...{FULL}, warnFrom: 1501}})", ""),
     ("based({operations: 20000, rows: 1234, behind: 5678})", "a base of 1,234 rows, and 5,678 operations behind it"),
     (
-        f"text(compacted({{begun: {SIX}, seconds: 1234.5, isOver: true, failure: null}}))",
+        f"text(compacted({{begun: {SIX}, seconds: 1234.5, isOver: true, callsWait: true, failure: null}}))",
         "2026-11-27 06:30:00: calls waited for 1,234.5 seconds",
+    ),
+    (
+        f"text(compacted({{begun: {SIX}, seconds: 1234.5, isOver: true, callsWait: false, failure: null}}))",
+        "2026-11-27 06:30:00: it took 1,234.5 seconds, and no call waited",
     ),
     (
         f"text(compacted({{begun: {SIX}, seconds: 2, isOver: true, failure: 'no memory'}}))",
         "2026-11-27 06:30:00: it failed after 2 seconds: no memory",
     ),
     (
-        f"text(compacted({{begun: {SIX}, seconds: 0, isOver: false, failure: null}}))",
+        f"text(compacted({{begun: {SIX}, seconds: 0, isOver: false, callsWait: true, failure: null}}))",
         "2026-11-27 06:30:00: it goes on, and calls wait",
+    ),
+    (
+        f"text(compacted({{begun: {SIX}, seconds: 0, isOver: false, callsWait: false, failure: null}}))",
+        "2026-11-27 06:30:00: it goes on",
     ),
 ]
 MANY: list[tuple[str, Any]] = [

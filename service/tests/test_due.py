@@ -8,7 +8,7 @@ from typing import Any, cast
 
 import pytest
 
-from job_host.commands.command_line import main
+from job_host.commands.command_line import main, make_parser, serve_settings
 from job_host.service.history.engine import Engine
 from job_host.service.history.log_file import Head, KnownBase
 from job_host.service.keepers.due import Daily, Due
@@ -108,8 +108,8 @@ def test_what_is_no_time_of_the_day(text: str, capsys: pytest.CaptureFixture[str
     assert "is no time of the day, as 03:30" in capsys.readouterr().err
 
 
-@pytest.mark.parametrize("words", [["--compact-at", "03:30"], ["--forget-keys"]])
-def test_a_history_in_postgres_has_no_log(words: list[str], capsys: pytest.CaptureFixture[str]) -> None:
-    given: Any = ["serve", "--catalogue", "none.json", "--postgres", "postgresql://nowhere", *words]
-    assert main(given) == 2
-    assert "are for a log" in capsys.readouterr().err
+def test_a_history_in_postgres_has_no_log(capsys: pytest.CaptureFixture[str]) -> None:
+    given: Any = ["serve", "--catalogue", "none.json", "--postgres", "postgresql://nowhere", "--compact-at", "03:30"]
+    assert main([*given, "--forget-keys"]) == 2
+    assert "--forget-keys is for a log" in capsys.readouterr().err
+    assert serve_settings(make_parser("serve").parse_args(given)).compact_at == time(3, 30)

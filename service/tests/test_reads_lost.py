@@ -14,7 +14,7 @@ import pytest
 from instances import Answer, Caller, Instance, running, until
 
 from job_host.service.settings import ServeSettings
-from job_host.service.stores.postgres import LOST
+from job_host.service.stores.postgres_connection import LOST
 
 Make = Callable[..., ServeSettings]
 

@@ -217,7 +217,7 @@ async def test_tables_of_a_later_version_are_refused_and_nothing_is_changed(sett
     await table.close()
     before = await rows_of(made.postgres[0])
     told = await refusal(made)
-    assert told.startswith("LaterVersion: the tables of PostgreSQL have version 7, and this jobhost knows up to version 2")
+    assert told.startswith("LaterVersion: the tables of PostgreSQL have version 7, and this jobhost knows up to version 3")
     assert await rows_of(made.postgres[0]) == before
 
 

@@ -54,10 +54,10 @@ def add_retention(parser: argparse.ArgumentParser) -> None:
 
 
 def add_compaction(parser: argparse.ArgumentParser) -> None:
-    """When the log is compacted, and what may be forgotten of one that was."""
+    """When the history is compacted, and what may be forgotten of one that was."""
     from job_host.commands.options import time_of_day
 
-    at = "compacts the log each day at this local time, while calls wait (default: by itself, if it has grown much)"
+    at = "compacts the history each day at this local time; over a log calls wait (default: by itself, if it has grown much)"
     parser.add_argument("--compact-at", type=time_of_day, metavar="HH:MM", help=at)
     forget = "goes on though request keys from before a compaction are lost: calls that are made again by them are made twice"
     parser.add_argument("--forget-keys", action="store_true", help=f"{forget} (default: the service names the files, and ends)")
@@ -117,10 +117,10 @@ def may_allow(given: argparse.Namespace) -> bool:
 
 
 def may_compact(given: argparse.Namespace) -> bool:
-    """Whether there is a log that these words are for."""
-    if not given.postgres or (given.compact_at is None and not given.forget_keys):
+    """Whether there is a log, if a word is for one."""
+    if not given.postgres or not given.forget_keys:
         return True
-    print("jobhost serve: --compact-at and --forget-keys are for a log, and not for --postgres", file=sys.stderr)
+    print("jobhost serve: --forget-keys is for a log, and not for --postgres", file=sys.stderr)
     return False
 
 

@@ -20,7 +20,6 @@ class HistoryBounds:
 
 
 LOG_BOUNDS = HistoryBounds(4_294_967_296, 4_200_000_000, 4_290_000_000)
-TABLE_BOUNDS = HistoryBounds(1_000_000, 900_000, 990_000)
 
 
 @dataclass(frozen=True)
@@ -79,7 +78,7 @@ class ServeSettings:
     keep_days: int | None = None
     keep_failed_days: int | None = None
     archive: Path | None = None
-    # The time of each day at which the log is compacted. Without one it is compacted by itself alone.
+    # The time of each day at which the history is compacted. Without one it is compacted by itself alone.
     compact_at: time | None = None
     # Goes on though the file beside the log doesn't know what is before the log's base.
     forget_keys: bool = False
@@ -87,5 +86,5 @@ class ServeSettings:
 
     @property
     def history(self) -> HistoryBounds:
-        """The bounds of the history. A log holds more than a table of PostgreSQL."""
-        return self.other_history or (TABLE_BOUNDS if self.postgres else LOG_BOUNDS)
+        """The bounds of the history: those of a log of batchctl."""
+        return self.other_history or LOG_BOUNDS

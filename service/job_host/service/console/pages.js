@@ -196,10 +196,11 @@ export function based({ rows, behind }) {
 }
 
 // When the last compaction began, and what became of it.
-export function compacted({ begun, seconds, isOver, failure }) {
-  if (!isOver) return element("span", {}, when(begun), ": it goes on, and calls wait");
+export function compacted({ begun, seconds, isOver, callsWait, failure }) {
+  if (!isOver) return element("span", {}, when(begun), callsWait ? ": it goes on, and calls wait" : ": it goes on");
   const took = `${seconds.toLocaleString("en")} seconds`;
-  return element("span", {}, when(begun), failure ? `: it failed after ${took}: ` : `: calls waited for ${took}`,
+  const well = callsWait ? `: calls waited for ${took}` : `: it took ${took}, and no call waited`;
+  return element("span", {}, when(begun), failure ? `: it failed after ${took}: ` : well,
     failure ? told(failure) : null);
 }
 

@@ -153,6 +153,12 @@ class Engine:
         """What was done to the job executions that are there, behind an operation."""
         return [(one, action) for one in self.executions.numbers_there() for action in self.actions.behind(one, operation)]
 
+    def actions_between(self, places: Iterable[int], since: int, until: int) -> list[tuple[int, Action]]:
+        """What was done behind an operation, up to another one, to the job executions at these places that were there then."""
+        executions = [one for one in self.executions.numbers_at(places) if self.executions.was_there(one, until)]
+        done = [(one, action) for one in executions for action in self.actions.behind(one, since)]
+        return [(one, action) for one, action in done if action.operation <= until]
+
     def restore_actions(self, actions: Iterable[tuple[int, Action]]) -> None:
         """What was done to job executions before the base, in the order of the operations, before anything is entered."""
         for execution, action in actions:

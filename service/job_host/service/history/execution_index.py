@@ -168,8 +168,19 @@ class ExecutionIndex:
 
     def numbers_purged(self) -> list[int]:
         """The job executions of the job instances that were purged behind the base."""
-        every = Page(0, self.last)
-        return [execution for instance in list(self._purged) for execution in self.of_instance(instance, every)]
+        return [execution for instance in list(self._purged) for execution in self.every_of(instance)]
+
+    def every_of(self, instance: int) -> list[int]:
+        """All job executions of a job instance, the newest first."""
+        return self.of_instance(instance, Page(0, self.last))
+
+    def was_there(self, execution: int, operation: int) -> bool:
+        """Whether its job instance wasn't purged by then."""
+        return self._purged.get(self._instances[self.numbers.place(execution)], operation + 1) > operation
+
+    def purged_between(self, since: int, until: int) -> list[int]:
+        """The job instances that were purged behind an operation, up to another one."""
+        return [instance for instance, operation in list(self._purged.items()) if since < operation <= until]
 
     def has_instance(self, instance: int) -> bool:
         return 0 < self._instance_numbers.place(instance) < len(self._newest) and instance not in self._purged

@@ -4,7 +4,6 @@ from __future__ import annotations
 
 import asyncio
 import logging
-import subprocess
 import time
 from collections.abc import Awaitable, Callable, Sequence
 from dataclasses import replace
@@ -14,6 +13,7 @@ from pathlib import Path
 from job_host.service.history import log_file
 from job_host.service.history.coprocess import CoProcess, CoProcessEnded
 from job_host.service.history.engine import STATE, Engine
+from job_host.service.keepers.batchctl_compact import MOST_SECONDS, can_compact, reason
 from job_host.service.keepers.due import Due
 from job_host.service.keepers.embedded_term import Beside, EmbeddedTerm
 from job_host.service.keepers.exchange import exchange
@@ -26,21 +26,9 @@ from job_host.service.terms.leases import Leases
 log = logging.getLogger(__name__)
 
 LOOK_SECONDS = 1.0
-# A compaction takes about two openings of the log. One that takes longer is ended.
-MOST_SECONDS = 3_600.0
-COMPACT = "--compact"
-# What batchctl writes on standard error if it goes on over the log as it was, and how long that may take to be heard.
-NOT_COMPACTED = "the log is not compacted"
-REASON_SECONDS = 1.0
 
 # Opens the log with a catalogue, and lets it be compacted before.
 Reopen = Callable[[bytes], Awaitable[CoProcess]]
-
-
-def can_compact(batchctl: Sequence[str]) -> bool:
-    """Whether the program knows the option."""
-    told = subprocess.run([*batchctl, "script", "--help"], stdin=subprocess.DEVNULL, capture_output=True, check=False)
-    return COMPACT.encode() in told.stdout
 
 
 def rest_of(engine: Engine) -> Rest:
@@ -165,14 +153,3 @@ class Compacting:
             raise
         engine.note_base(base)
         return process, ""
-
-
-async def reason(process: CoProcess) -> str:
-    """Why a log isn't compacted, as batchctl says on standard error."""
-    until = time.monotonic() + REASON_SECONDS
-    while time.monotonic() < until:
-        told = [line for line in process.errors.splitlines() if NOT_COMPACTED in line]
-        if told:
-            return told[-1]
-        await asyncio.sleep(REASON_SECONDS / 50)
-    return "batchctl gave no reason"

@@ -21,8 +21,9 @@ from job_host.service.history import log_file
 from job_host.service.history.coprocess import CatalogueRefused, CoProcess, CoProcessEnded
 from job_host.service.history.engine import Engine
 from job_host.service.history.log_file import Beginning, KnownBase, OtherLog, Search
+from job_host.service.keepers.batchctl_compact import COMPACT
 from job_host.service.keepers.beside_base import BesideBase
-from job_host.service.keepers.compacting import COMPACT, Compacting, rest_of
+from job_host.service.keepers.compacting import Compacting, rest_of
 from job_host.service.keepers.due import Due
 from job_host.service.keepers.embedded_term import Beside, EmbeddedTerm
 from job_host.service.keepers.exchange import END_SECONDS, exchange

@@ -8,22 +8,26 @@ from job_host.protocol.lines import query
 from job_host.service.history.coprocess import CoProcess, CoProcessEnded
 from job_host.service.history.engine import Engine, Record, ReplayDiffers
 from job_host.service.stores.postgres import PostgresStore
+from job_host.service.stores.postgres_bases import BaseGone
 
 CHUNK = 2_000
 
 
 class GrownProcess:
-    """Knows the first operations of the engine, up to `number`. The table has those that are kept."""
+    """Knows the first operations of the engine, up to `number`: at first those before a base. The table has those behind it."""
 
-    def __init__(self, process: CoProcess, store: PostgresStore, engine: Engine, epoch: int) -> None:
+    def __init__(self, process: CoProcess, store: PostgresStore, engine: Engine, epoch: int, number: int) -> None:
         self._process = process
         self._store = store
         self._engine = engine
         self._epoch = epoch
-        self._number = 0
+        self._number = number
 
     async def bring_on(self) -> None:
-        """Replays what the table has of the engine's operations. Calls go on meanwhile."""
+        """Replays what the table has of the engine's operations. Calls go on meanwhile.
+
+        Raises BaseGone if a newer base has taken the place of the next ones.
+        """
         while records := await self._kept():
             await self._replay(records)
 
@@ -32,6 +36,8 @@ class GrownProcess:
         return [one for one in records if one.number <= self._engine.entered]
 
     async def _replay(self, records: Sequence[Record]) -> None:
+        if records[0].number != self._number + 1 or records[-1].number != self._number + len(records):
+            raise BaseGone(f"operation {self._number + 1} isn't in the table any more")
         replies = await self._process.ask_all([one.line for one in records])
         for record, reply in zip(records, replies, strict=True):
             if record.reply != reply:

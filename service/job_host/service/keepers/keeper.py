@@ -65,12 +65,13 @@ class HeldPage:
 
 @dataclass(frozen=True)
 class Compaction:
-    """A compaction of the log: the moment at which it began, how many seconds calls waited, and why it failed if it did."""
+    """A compaction: when it began, how many seconds it took, in which calls may wait, and why it failed if it did."""
 
     begun: int
     seconds: float = 0.0
     failure: str = ""
     is_over: bool = False
+    calls_wait: bool = True
 
 
 class Fatal(Exception):
@@ -95,7 +96,7 @@ class Keeper(ABC):
         self.names = PLAIN_NAMES if served.files is None else VERSIONED_NAMES
         self.book: JobBook | None = None
         self.changes: JobChanges | None = None
-        # The last compaction that was tried, or is under way. A history in PostgreSQL has none.
+        # The last compaction that this instance has tried, or that is under way.
         self.compaction: Compaction | None = None
 
     @abstractmethod

@@ -15,13 +15,21 @@ from typing import TYPE_CHECKING, TypeVar
 from job_host.catalogue import growth, jobs
 from job_host.catalogue.faults import NoVerdict
 from job_host.catalogue.jobs import ServedJobs
-from job_host.service.history.coprocess import CoProcess, CoProcessEnded
+from job_host.service.history.coprocess import CoProcessEnded
 from job_host.service.history.engine import Engine, ReplayDiffers
-from job_host.service.keepers.keeper import Fatal, Keeper, check_catalogue, first_of, needed
+from job_host.service.keepers.base_making import BaseMaking
+from job_host.service.keepers.due import Due
+from job_host.service.keepers.keeper import Compaction, Fatal, Keeper, check_catalogue, first_of, needed
+from job_host.service.keepers.local_logs import CatalogueGrew, LocalLogs
+from job_host.service.keepers.postgres_compacting import PostgresCompacting
+from job_host.service.keepers.postgres_following import check_gap, knows_table, look_at_base
 from job_host.service.keepers.postgres_term import PostgresTerm, beating
 from job_host.service.problems import Problem, unavailable
 from job_host.service.settings import ServeSettings
-from job_host.service.stores.postgres import LOST, Leader, NoPrimary, NotDurable, PostgresStore
+from job_host.service.stores.local_files import LocalFiles
+from job_host.service.stores.postgres import Leader, PostgresStore
+from job_host.service.stores.postgres_bases import BaseDamaged, BaseGone, OperationsMissing
+from job_host.service.stores.postgres_connection import LOST, NoPrimary, NotDurable
 from job_host.service.stores.versions import LaterVersion
 from job_host.service.terms.calls import LogPage, LogSize, WorkLog
 from job_host.service.terms.leases import Leases
@@ -46,8 +54,9 @@ RESIGN_SECONDS = 1.0
 PRUNED = 5_000
 
 
-class CatalogueGrew(Exception):
-    """The leader brought a catalogue that this instance hasn't."""
+# What lets an instance begin again, and what it can't go on with: a person has to look.
+AGAIN = (NoPrimary, CoProcessEnded, CatalogueGrew, BaseGone, NoVerdict, Problem, *LOST)
+OVER = (ReplayDiffers, BaseDamaged, OperationsMissing, NotDurable, LaterVersion, growth.CatalogueChanged)
 
 
 class PostgresKeeper(Keeper):
@@ -63,7 +72,13 @@ class PostgresKeeper(Keeper):
         self._store: PostgresStore | None = None
         # It outlives a connection that is lost, and a term. It has entered nothing of a later epoch.
         self._kept: Engine | None = None
+        # The identity of the history whose base it began with.
+        self._kept_history = ""
         self._entered_epoch = 0
+        self._files = LocalFiles()
+        self._logs = LocalLogs(settings.batchctl, settings.postgres, self._files)
+        self._compacting = PostgresCompacting(settings.batchctl, Due(settings.compact_at), self._note_compaction)
+        self._making = BaseMaking(self._logs, self._files, settings.postgres, self._compacting.put)
         self._sessions = Sessions({}, settings.bounds.clients)
         self._jobs = self._jobs_of_folder() if served.files is not None else None
         self._poke = asyncio.Event()
@@ -74,22 +89,28 @@ class PostgresKeeper(Keeper):
         """Only a folder needs what reads JSL."""
         from job_host.service.keepers.postgres_jobs import PostgresJobs
 
-        return PostgresJobs(self._settings)
+        return PostgresJobs(self._settings, self._logs, self._compacting.turn)
+
+    def _note_compaction(self, one: Compaction) -> None:
+        self.compaction = one
 
     async def run(self) -> None:
         await check_catalogue(self._settings.batchctl, self.served)
+        if self._settings.compact_at is not None and not await self._compacting.can():
+            raise Fatal(f"{self._settings.batchctl[0]} has no `script --compact`, which --compact-at needs")
         try:
             await self._serve()
         finally:
             await self._throw_away()
+            self._files.close()
 
     async def _serve(self) -> None:
         while not self._closing.is_set():
             try:
                 await self._serve_once()
-            except (NoPrimary, CoProcessEnded, CatalogueGrew, NoVerdict, Problem, *LOST) as fault:
+            except AGAIN as fault:
                 log.warning("begins again: %s %s", type(fault).__name__, fault)
-            except (ReplayDiffers, NotDurable, LaterVersion, growth.CatalogueChanged) as fault:
+            except OVER as fault:
                 raise Fatal(f"{type(fault).__name__}: {fault}") from fault
             except Exception:
                 log.exception("begins again")
@@ -116,34 +137,30 @@ class PostgresKeeper(Keeper):
             store.close()
 
     async def _engine_over(self, store: PostgresStore) -> Engine:
-        """The engine from before, if it knows what the table has and no more; else a new one, which replays the table."""
+        """The engine from before, if it knows what the table has and no more; else a new one, which knows the newest base."""
         self._catalogue, self._bring = await self._choose(await store.catalogue())
         self._has_begun = True
         if self._kept is not None and not await self._may_go_on(store, self._kept):
-            log.warning("batchctl is begun again: it has ended, or knows what isn't in the table")
+            log.warning(
+                "batchctl is begun again: it has ended, or knows what isn't in the table, or lacks what isn't there any more"
+            )
             await self._throw_away()
             # Another instance may lead before this one has replayed the table.
             leader = await store.leader()
             if leader.holder == self._holder:
                 await self._resign(store, leader.epoch)
         if self._kept is None:
-            self._kept = await self._start_engine()
+            self._kept, self._kept_history = await self._start_engine()
         return self._kept
 
     async def _may_go_on(self, store: PostgresStore, engine: Engine) -> bool:
-        """Whether all that the engine has entered is in the table, from the last operation that was known to be there on.
-
-        A commit whose answer was lost may be there or not, and another leader may have written others, in a later epoch. Each
-        leader began with all operations before its own. So what comes before that last one is the same, too.
-        """
+        """Whether its co-process lives, and it knows nothing that isn't in the table."""
         if engine.process.catalogue != self._catalogue or not await engine.has_noted_all():
             return False
-        recent = list(engine.recent)
-        first = recent[0].number if recent else 1
-        return await store.operations_after(first - 1, self._entered_epoch, len(recent)) == recent
+        return await knows_table(store, engine, self._entered_epoch)
 
-    async def _start_engine(self) -> Engine:
-        return Engine(await CoProcess.start([*self._settings.batchctl, "script"], self._catalogue), self.names)
+    async def _start_engine(self) -> tuple[Engine, str]:
+        return await self._logs.engine(self._catalogue, self.names)
 
     async def _throw_away(self) -> None:
         engine, self._kept = self._kept, None
@@ -183,6 +200,7 @@ class PostgresKeeper(Keeper):
             if last is None or leader.epoch != last.epoch:
                 await self._look_at_epoch(store, engine, leader)
             await self._catch_up(store, engine, leader.epoch)
+            await look_at_base(store, engine, leader)
             if leader != last:
                 last, since = leader, time.monotonic()
             self.leader_url, self.epoch, self.history = leader.url, leader.epoch, leader.history
@@ -201,11 +219,7 @@ class PostgresKeeper(Keeper):
         """With a new epoch the catalogue may have more jobs. Versions of jobs are taken over while reads go on."""
         chosen, bring = await self._choose(await store.catalogue())
         if self._jobs is not None and bring is None and chosen != self._catalogue:
-            grown = await self._jobs.grown(store, engine, chosen, leader.epoch)
-            try:
-                await grown.take_place(leader.epoch)
-            finally:
-                await grown.close()
+            await self._jobs.follow(store, engine, chosen, leader.epoch)
             self._catalogue, self._bring = chosen, None
         if chosen != self._catalogue:
             raise CatalogueGrew(f"by epoch {leader.epoch}")
@@ -214,11 +228,12 @@ class PostgresKeeper(Keeper):
     async def _catch_up(self, store: PostgresStore, engine: Engine, epoch: int) -> None:
         """Replays what the table has more than the co-process, up to this epoch, whose catalogue the co-process has.
 
-        The next operations are read while those before them are replayed.
+        The next operations are read while those before them are replayed. Raises BaseGone if a base has taken their place.
         """
         self._entered_epoch = epoch
         records = await store.operations_after(engine.entered, epoch, CHUNK)
         while records:
+            await check_gap(store, engine, records)
             coming = asyncio.ensure_future(store.operations_after(records[-1].number, epoch, CHUNK))
             coming.add_done_callback(lambda done: done.cancelled() or done.exception())
             async with engine.turn:
@@ -235,13 +250,17 @@ class PostgresKeeper(Keeper):
             await self._catch_up(store, engine, epoch)
             most = self._settings.bounds.clients
             self._sessions = Sessions(await store.clients(most), most, engine.last_session, engine.holding)
-        self.history = (await store.leader()).history
+        leader = await store.leader()
+        self.history = leader.history
+        await look_at_base(store, engine, leader)
+        await self._check_history(engine)
         settings = TermSettings(self._settings.history.refuse_from, beat)
         term = PostgresTerm(store, epoch, engine, self._sessions, settings, self._observers)
         self._bring = None
         if self._jobs is None:
             await self._open_doors(term, begun)
         rounds = [term.commit_rounds(), term.desk.serve(), term.desk.watch(), self.leases.watch(term), self._prune(store, term)]
+        rounds.append(self._compacting.run(self._making, term))
         if self._jobs is not None:
             rounds.append(self._lead_jobs(store, term, begun))
         try:
@@ -256,6 +275,13 @@ class PostgresKeeper(Keeper):
             changes, self.changes = self.changes, None
             if changes is not None:
                 await changes.stop()
+
+    async def _check_history(self, engine: Engine) -> None:
+        """Raises BaseGone if the engine knows the base of another history: the table was emptied, and a new one has begun."""
+        if engine.based and self.history != self._kept_history:
+            await self._throw_away()
+            raise BaseGone("its history is over, and another one begins")
+        self._kept_history = self.history
 
     async def _open_doors(self, term: PostgresTerm, begun: float) -> None:
         """From now on this instance takes calls."""

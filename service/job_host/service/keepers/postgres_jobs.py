@@ -9,29 +9,37 @@ from collections.abc import Sequence
 from job_host.catalogue.faults import NoVerdict
 from job_host.catalogue.jobs import ForWorkers, JobFile, JobsRefused, ServedJobs
 from job_host.catalogue.versions import read_for_workers
-from job_host.service.history.coprocess import CatalogueRefused, CoProcess, CoProcessEnded
+from job_host.service.history.coprocess import CatalogueRefused, CoProcessEnded
 from job_host.service.history.engine import Engine, ReplayDiffers
 from job_host.service.keepers.folder_changes import known_files
 from job_host.service.keepers.grown_process import GrownProcess
 from job_host.service.keepers.job_changes import JobChanges, check_folder, kept_change
+from job_host.service.keepers.local_logs import CatalogueGrew, LocalLogs
 from job_host.service.keepers.postgres_term import PostgresTerm
 from job_host.service.problems import Problem, unavailable
 from job_host.service.settings import ServeSettings
-from job_host.service.stores.postgres import LOST, PostgresStore
+from job_host.service.stores.postgres import PostgresStore
+from job_host.service.stores.postgres_bases import BaseDamaged, BaseGone
+from job_host.service.stores.postgres_connection import LOST, NoPrimary
 from job_host.service.versions.book import JobBook
 from job_host.service.versions.changes import Change, Growth
 
 log = logging.getLogger(__name__)
 
 # What ends a co-process that is to take another one's place.
-FAILED = (CoProcessEnded, CatalogueRefused, ReplayDiffers, *LOST)
+FAILED = (CoProcessEnded, CatalogueRefused, CatalogueGrew, ReplayDiffers, BaseDamaged, BaseGone, NoPrimary, *LOST)
 
 
 class PostgresJobs:
-    """The book of one history. `seen` are the files of this instance's folder as they were read last."""
+    """The book of one history. `seen` are the files of this instance's folder as they were read last.
 
-    def __init__(self, settings: ServeSettings) -> None:
+    While it holds `turn`, this instance keeps no base: that would take operations away which another co-process is handed.
+    """
+
+    def __init__(self, settings: ServeSettings, logs: LocalLogs, turn: asyncio.Lock) -> None:
         self._settings = settings
+        self._logs = logs
+        self._turn = turn
         self.book: JobBook | None = None
         self.seen: dict[str, str] = {}
 
@@ -60,25 +68,42 @@ class PostgresJobs:
             await term.keep_growth(Growth(changes, None))
             book.enter(changes)
             return
-        grown = await self.grown(store, term.engine, line, term.epoch)
+        async with self._turn:
+            await self._grow(store, term, Growth(changes, line))
+        book.enter(changes)
+
+    async def _grow(self, store: PostgresStore, term: PostgresTerm, growth: Growth) -> None:
+        """Keeps a catalogue that grows."""
+        grown = await self.grown(store, term.engine, growth.catalogue or b"", term.epoch)
         try:
-            await term.keep_growth(Growth(changes, line))
+            await term.keep_growth(growth)
             await grown.take_place(term.epoch)
         except BaseException as fault:
             # The table may have the catalogue that the term's co-process hasn't.
             term.fail(unavailable("CommitFailed", f"a change of jobs may have been kept: {type(fault).__name__} {fault}"))
             await grown.close()
             raise term.failure or fault from fault
-        book.enter(changes)
+
+    async def follow(self, store: PostgresStore, engine: Engine, line: bytes, epoch: int) -> None:
+        """Takes over a catalogue that a leader has kept under this epoch."""
+        async with self._turn:
+            grown = await self.grown(store, engine, line, epoch)
+            try:
+                await grown.take_place(epoch)
+            finally:
+                await grown.close()
 
     async def grown(self, store: PostgresStore, engine: Engine, line: bytes, epoch: int) -> GrownProcess:
         """A co-process with a catalogue that has grown, which knows what the table has."""
         try:
-            process = await CoProcess.start([*self._settings.batchctl, "script"], line)
+            opened = await self._logs.open(line)
         except FAILED as fault:
             raise unavailable("CoProcessEnded", f"nothing is changed: {type(fault).__name__} {fault}") from fault
-        grown = GrownProcess(process, store, engine, epoch)
+        self._logs.keep(opened)
+        grown = GrownProcess(opened.process, store, engine, epoch, opened.number)
         try:
+            if opened.number > engine.entered:
+                raise BaseGone(f"the base of {opened.number} operations has more than are known here")
             await grown.bring_on()
         except BaseException as fault:
             await grown.close()

@@ -9,7 +9,8 @@ from contextlib import asynccontextmanager, suppress
 from typing import Any
 
 from job_host.service.problems import Problem, unavailable
-from job_host.service.stores.postgres import LOST, PostgresStore
+from job_host.service.stores.postgres import PostgresStore
+from job_host.service.stores.postgres_connection import LOST
 from job_host.service.terms.calls import Item, Kept, KeptRequest
 from job_host.service.terms.term import Term
 from job_host.service.versions.changes import Growth

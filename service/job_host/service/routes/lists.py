@@ -283,6 +283,7 @@ def compaction(one: Compaction) -> dict[str, Any]:
         "begun": moment(one.begun),
         "seconds": round(one.seconds, 3),
         "isOver": one.is_over,
+        "callsWait": one.calls_wait,
         "failure": one.failure or None,
     }
 

@@ -4,10 +4,9 @@ from __future__ import annotations
 
 import asyncio
 import json
-import logging
-from collections.abc import AsyncIterator, Coroutine, Iterator, Mapping, Sequence
-from contextlib import asynccontextmanager, contextmanager
-from dataclasses import dataclass
+from collections.abc import AsyncIterator, Coroutine, Mapping, Sequence
+from contextlib import asynccontextmanager
+from dataclasses import dataclass, field
 from typing import Any
 
 import asyncpg
@@ -15,6 +14,8 @@ import asyncpg
 from job_host.catalogue.jobs import JobFile, SettingsFile
 from job_host.protocol.lines import compact, digest
 from job_host.service.history.engine import Record
+from job_host.service.stores.postgres_bases import NEWEST, KeptBase
+from job_host.service.stores.postgres_connection import NotDurable, closed_is_lost, connect_primary, or_drop
 from job_host.service.stores.postgres_migrations import are_current, migrate
 from job_host.service.stores.postgres_schema import (
     ADD_CHANGE,
@@ -25,6 +26,7 @@ from job_host.service.stores.postgres_schema import (
     GROW,
     HEARD,
     KEEP_CATALOGUE,
+    LEADER,
     LOG,
     LOG_ENDS,
     LOG_SIZES,
@@ -48,87 +50,20 @@ from job_host.service.terms.calls import (
 from job_host.service.terms.sessions import Silent
 from job_host.service.versions.changes import Change, Growth, change_in
 
-log = logging.getLogger(__name__)
-
-# What a lost or refused connection raises.
-LOST = (OSError, asyncio.TimeoutError, asyncpg.PostgresError, asyncpg.InterfaceError, asyncpg.InternalClientError)
-
-CONNECT_SECONDS = 3.0
-# Without a just-in-time compiler: it takes seconds for statements that take milliseconds.
-SESSION = {"application_name": "jobhost", "jit": "off"}
-
-
-class NoPrimary(Exception):
-    """None of the servers takes writes. The text says what each answered."""
-
-
-class NotDurable(Exception):
-    """The server acknowledges a commit before it is on its disk."""
-
 
 @dataclass(frozen=True)
 class Leader:
-    """The leader's row. An epoch is one term of one instance; beats rise as long as it lives. The history has an identity."""
+    """The leader's row. An epoch is one term of one instance; beats rise as long as it lives. The history has an identity.
+
+    `based` says how many operations are before its newest base. That is no sign of the leader.
+    """
 
     epoch: int
     beats: int
     holder: str
     url: str
     history: str
-
-
-async def connect_primary(dsns: Sequence[str], timeout: float | None) -> asyncpg.Connection:
-    """A connection to the first server that takes writes. One that doesn't answer is left after some seconds."""
-    told = []
-    for place, dsn in enumerate(dsns):
-        try:
-            connection = await asyncpg.connect(dsn, timeout=CONNECT_SECONDS, command_timeout=timeout, server_settings=SESSION)
-            if await _takes_writes(connection):
-                return connection
-            told.append(f"server {place} is a standby")
-        except LOST as fault:
-            told.append(f"server {place}: {type(fault).__name__} {fault}")
-    raise NoPrimary("; ".join(told))
-
-
-async def _takes_writes(connection: asyncpg.Connection) -> bool:
-    """Whether a server is no standby. If it is one, or doesn't answer, the connection is dropped."""
-    takes_writes = False
-    try:
-        takes_writes = not await connection.fetchval("select pg_is_in_recovery()", timeout=CONNECT_SECONDS)
-    finally:
-        if not takes_writes:
-            connection.terminate()
-    return takes_writes
-
-
-@contextmanager
-def closed_is_lost(connection: asyncpg.Connection) -> Iterator[None]:
-    """asyncpg looks for what a connection has no longer, if it is closed within a statement: it is lost then."""
-    try:
-        yield
-    except AttributeError as fault:
-        if not connection.is_closed():
-            raise
-        raise asyncpg.InterfaceError("the connection was closed within a statement") from fault
-
-
-async def or_drop(connection: asyncpg.Connection, seconds: float, asked: Coroutine[Any, Any, Any]) -> Any:
-    """Awaits what a connection was asked. If it takes too long, or isn't waited for any more, the connection is dropped.
-
-    It isn't cancelled: a server that waits for its standby would show what the standby hasn't.
-    """
-    task = asyncio.ensure_future(asked)
-    try:
-        done, _ = await asyncio.wait([task], timeout=seconds)
-        if not done:
-            raise asyncio.TimeoutError(f"no answer in {seconds:g} seconds")
-        with closed_is_lost(connection):
-            return task.result()
-    finally:
-        if not task.done():
-            task.add_done_callback(lambda ended: ended.cancelled() or ended.exception())
-            connection.terminate()
+    based: int = field(default=0, compare=False)
 
 
 class PostgresStore:
@@ -192,8 +127,12 @@ class PostgresStore:
             return list(await reads.fetch(statement, *arguments))
 
     async def leader(self) -> Leader:
-        row = (await self._fetch("select epoch, beats, holder, url, history::text from job_host_leader"))[0]
-        return Leader(row["epoch"], row["beats"], row["holder"], row["url"], row["history"])
+        return Leader(*(await self._fetch(LEADER))[0])
+
+    async def newest_base(self) -> KeptBase | None:
+        """The newest base of the history, if it has one."""
+        rows = await self._fetch(NEWEST)
+        return KeptBase.of(rows[0]) if rows else None
 
     async def catalogue(self) -> bytes | None:
         """The catalogue of the last leader that brought one."""

@@ -7,6 +7,7 @@ from collections.abc import Awaitable, Callable
 import asyncpg
 
 from job_host.service.stores.postgres_schema import (
+    ADD_BASES,
     ADD_HISTORY,
     ADD_JOB_CHANGES,
     HAS_HISTORY,
@@ -34,8 +35,12 @@ async def add_job_changes(connection: asyncpg.Connection) -> None:
     await connection.execute(ADD_JOB_CHANGES)
 
 
+async def add_bases(connection: asyncpg.Connection) -> None:
+    await connection.execute(ADD_BASES)
+
+
 # What brings each version to the next one. They are never changed: a later version has one of its own.
-MIGRATIONS: list[Migration] = [make_tables, add_job_changes]
+MIGRATIONS: list[Migration] = [make_tables, add_job_changes, add_bases]
 
 
 async def version_of(connection: asyncpg.Connection) -> int:

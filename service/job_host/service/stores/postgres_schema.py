@@ -75,6 +75,37 @@ create table if not exists job_host_job_change (
 )
 """
 
+# The third version. A base has parts, which say in their order what its file is. Who did what before it stands beside it.
+ADD_BASES = """
+create table if not exists job_host_base (
+    number bigint primary key,
+    execution bigint not null,
+    instance bigint not null,
+    work bigint not null,
+    rows bigint not null,
+    digest text not null,
+    made bigint not null,
+    parts integer not null,
+    history uuid not null
+);
+create table if not exists job_host_base_part (
+    number bigint not null,
+    part integer not null,
+    bytes bytea not null,
+    primary key (number, part)
+);
+create table if not exists job_host_action (
+    operation bigint not null,
+    execution bigint not null,
+    name text not null,
+    session bigint not null,
+    moment bigint not null,
+    of bigint not null,
+    primary key (operation, execution)
+);
+create index if not exists job_host_action_execution on job_host_action (execution);
+"""
+
 # A number that only this package locks, so that two instances don't make the tables at once.
 SCHEMA_LOCK = 7_402_118_431
 
@@ -127,14 +158,22 @@ TAKE_OVER = """
 update job_host_leader set epoch = epoch + 1, beats = 0, holder = $1, url = $2 where epoch = $3 and beats = $4 returning epoch
 """
 
+LEADER = """
+select epoch, beats, holder, url, l.history::text,
+    (select coalesce(max(b.number), 0) from job_host_base b where b.history = l.history)
+from job_host_leader l
+"""
+
 # Whether the operations are those of the history in the leader's row, which has a digest of the first one, if there was one.
+# That one stays in the table as bases take the place of others.
 BEGINNING = """
 select first_operation, (select line from job_host_operation where number = 1) as line from job_host_leader
 """
 NOTE_FIRST = "update job_host_leader set first_operation = $1"
-# Another history: request keys and logs belong to the one before it.
+# Another history: request keys, logs and bases belong to the one before it.
 BEGIN_HISTORY = """
-with request as (delete from job_host_request), work_log as (delete from job_host_work_log)
+with request as (delete from job_host_request), work_log as (delete from job_host_work_log),
+    base as (delete from job_host_base), part as (delete from job_host_base_part), action as (delete from job_host_action)
 update job_host_leader set history = gen_random_uuid(), first_operation = $1
 """
 
