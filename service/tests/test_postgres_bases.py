@@ -16,10 +16,13 @@ from kept import engine_of, executions, until_epoch
 from postgres_bases import bases_in, compact, done_in, handed, keeper_of, operations_in, settle, table_of, tables_in
 from test_kept_engine import cut_off
 
+from job_host.service.history import log_file
+from job_host.service.history.coprocess import CoProcessEnded
 from job_host.service.keepers import due, postgres_compacting
 from job_host.service.keepers.base_making import BaseMaking
 from job_host.service.settings import ServeSettings
 from job_host.service.stores import postgres_bases as bases_module
+from job_host.service.stores.local_files import PREFIX
 from job_host.service.stores.postgres_bases import PostgresBases
 
 Make = Callable[..., ServeSettings]
@@ -74,6 +77,26 @@ async def test_request_keys_from_before_a_base_are_answered_alike(basing: Make) 
     async with running(made) as instance:
         await ask_again(instance.url)
         assert engine_of(instance).entered == count
+
+
+async def test_who_did_what_goes_with_a_purge(basing: Make) -> None:
+    """What was done before the base before it, and behind that. What wasn't purged stays."""
+    made = basing()
+    async with running(made) as instance:
+        caller = Caller(instance.url, "one")
+        for number in (1, 2, 3):
+            await caller.start("short")
+            await caller.change(number, "stop")
+        await compact(instance)
+        await caller.change(1, "abandon")
+        for number in (1, 2):
+            assert (await caller.ask("DELETE", f"/batch/jobinstances/{number}")).status == 200
+        await compact(instance)
+    async with table_of(made) as table:
+        found = await table.fetch("select execution, operation, name from job_host_action order by 1, 2")
+    assert [tuple(row) for row in found] == [(3, 5, "start"), (3, 6, "stop")]
+    async with running(made) as instance:
+        assert [[row[0] for row in rows] for rows in await done_in(instance.url, (3,))] == [["stop", "start"]]
 
 
 async def test_a_takeover_begins_with_a_base_and_restarts_what_failed_before_it(basing: Make) -> None:
@@ -213,15 +236,16 @@ async def test_two_instances_make_one_base_under_load(basing: Make, monkeypatch:
 async def test_two_bases_of_as_many_operations_have_the_same_bytes(basing: Make, monkeypatch: pytest.MonkeyPatch) -> None:
     """Of two that began with the same one, the second changes nothing. In small parts they are the same, too."""
     monkeypatch.setattr(bases_module, "PART_BYTES", 700)
-    files, both = list[bytes](), asyncio.Barrier(2)
+    files, both, turn = list[bytes](), asyncio.Barrier(2), asyncio.Lock()
     made = basing()
 
     async def wait_and_put(making: Any, bases: PostgresBases, found: Any) -> bool:
         files.append(Path(found.path).read_bytes())
         await both.wait()
-        before = await tables_in(made)
-        told = await bases.put(found)
-        assert told or await tables_in(made) == before
+        async with turn:
+            before = await tables_in(made)
+            told = await bases.put(found)
+            assert told or await tables_in(made) == before
         return told
 
     async with running(made) as one, running(made, "follower") as two:
@@ -230,7 +254,8 @@ async def test_two_bases_of_as_many_operations_have_the_same_bytes(basing: Make,
         for instance in (one, two):
             keeper = keeper_of(instance)
             monkeypatch.setattr(keeper._making, "_put", lambda bases, found, of=keeper: wait_and_put(of, bases, found))
-        await asyncio.gather(compact(one), compact(two))
+        done = await asyncio.gather(compact(one), compact(two))
+        assert [compaction.failure for compaction in done] == ["", ""]
         assert len(files) == 2 and files[0] == files[1]
         ((number, parts),) = await bases_in(made)
         assert (number, parts) == (14, -(-len(files[0]) // 700))
@@ -306,6 +331,62 @@ async def test_a_leader_makes_a_base_by_itself_and_once(basing: Make, monkeypatc
             await Caller(one.url).start("short")
         await asyncio.sleep(0.3)
         assert tried == [14]
+
+
+async def test_behind_its_base_a_leader_goes_on_with_another_batchctl(
+    basing: Make, monkeypatch: pytest.MonkeyPatch, tmp_path: Path
+) -> None:
+    """Its log has the base, and no longer all since the start. Calls go on, and each is made once."""
+    monkeypatch.setattr("tempfile.tempdir", str(tmp_path))
+    monkeypatch.setattr(due, "MANY", 14)
+    monkeypatch.setattr(postgres_compacting, "LOOK_SECONDS", 0.05)
+    made = basing()
+    async with running(made) as instance:
+        process, is_over, numbers = engine_of(instance).process, False, list[int]()
+
+        async def load() -> None:
+            while not is_over:
+                numbers.append((await Caller(instance.url, "one").start("wide")).told["executionId"])
+
+        await make_history(instance.url)
+        loads = [asyncio.create_task(load()) for _ in range(2)]
+
+        async def has_ended() -> bool:
+            return process.has_ended and engine_of(instance).process is not process
+
+        await until(has_ended)
+        is_over = True
+        await asyncio.gather(*loads)
+        assert sorted(numbers) == list(range(6, 6 + len(numbers))) and instance.service.keeper.epoch == 1
+        assert (await Caller(instance.url, "two").finish(4)).operations == 15 + len(numbers)
+        (path,) = tmp_path.glob(f"{PREFIX}*/*/history.log")
+        base = log_file.known_base(path)
+        assert base is not None and base == engine_of(instance).base and base.head.operations >= 14
+        before = await lists(instance.url)
+    async with running(made) as instance:
+        assert await lists(instance.url) == before
+
+
+async def test_a_leader_goes_on_with_its_batchctl_if_no_other_one_begins(
+    basing: Make, monkeypatch: pytest.MonkeyPatch, caplog: pytest.LogCaptureFixture
+) -> None:
+    monkeypatch.setattr(due, "MANY", 14)
+    monkeypatch.setattr(postgres_compacting, "LOOK_SECONDS", 0.05)
+    async with running(basing()) as instance:
+        process = engine_of(instance).process
+
+        async def refused(*given: Any) -> None:
+            raise CoProcessEnded("no memory")
+
+        monkeypatch.setattr(keeper_of(instance)._logs, "open", refused)
+        await make_history(instance.url)
+
+        async def is_told() -> bool:
+            return "batchctl goes on with all since its start: CoProcessEnded no memory" in caplog.text
+
+        await until(is_told)
+        assert engine_of(instance).process is process and instance.service.keeper.epoch == 1
+        assert (await Caller(instance.url, "two").finish(4)).operations == 15
 
 
 async def test_a_leader_makes_a_base_each_day(basing: Make, monkeypatch: pytest.MonkeyPatch) -> None:

@@ -1,16 +1,27 @@
-"""A co-process with a catalogue that has grown: it is brought on beside the engine's, and then takes its place."""
+"""A co-process that begins with the newest base: it is brought on beside the engine's, and then takes its place.
+
+Its catalogue may have grown. Its log has no more than the base and what stands behind that.
+"""
 
 from __future__ import annotations
 
+import logging
 from collections.abc import Sequence
 
 from job_host.protocol.lines import query
-from job_host.service.history.coprocess import CoProcess, CoProcessEnded
+from job_host.service.history.coprocess import CatalogueRefused, CoProcess, CoProcessEnded
 from job_host.service.history.engine import Engine, Record, ReplayDiffers
+from job_host.service.keepers.local_logs import CatalogueGrew, LocalLogs
+from job_host.service.keepers.postgres_term import PostgresTerm
 from job_host.service.stores.postgres import PostgresStore
-from job_host.service.stores.postgres_bases import BaseGone
+from job_host.service.stores.postgres_bases import BaseDamaged, BaseGone
+from job_host.service.stores.postgres_connection import LOST, NoPrimary
+
+log = logging.getLogger(__name__)
 
 CHUNK = 2_000
+# What ends a co-process that is to take another one's place.
+FAILED = (CoProcessEnded, CatalogueRefused, CatalogueGrew, ReplayDiffers, BaseDamaged, BaseGone, NoPrimary, *LOST)
 
 
 class GrownProcess:
@@ -83,3 +94,38 @@ class GrownProcess:
         """Ends it, unless it has taken the other one's place."""
         if self._engine.process is not self._process:
             await self._process.close()
+
+
+async def brought_on(logs: LocalLogs, store: PostgresStore, engine: Engine, line: bytes, epoch: int) -> GrownProcess:
+    """A co-process with this catalogue that knows what the table has of the engine's operations. Calls go on meanwhile.
+
+    Raises what `open` and `bring_on` do; and BaseGone, if the newest base has more than the engine knows.
+    """
+    opened = await logs.open(line)
+    logs.keep(opened)
+    grown = GrownProcess(opened.process, store, engine, epoch, opened.number)
+    try:
+        if opened.number > engine.entered:
+            raise BaseGone(f"the base of {opened.number} operations has more than are known here")
+        await grown.bring_on()
+    except BaseException:
+        await grown.close()
+        raise
+    return grown
+
+
+async def renew(logs: LocalLogs, store: PostgresStore, term: PostgresTerm) -> None:
+    """Lets a batchctl that begins with the newest base take the place of a term's, which has all since its start.
+
+    If it can't be begun, the other one goes on.
+    """
+    engine, epoch = term.engine, term.epoch
+    try:
+        grown = await brought_on(logs, store, engine, engine.process.catalogue, epoch)
+    except FAILED as fault:
+        log.warning("batchctl goes on with all since its start: %s %s", type(fault).__name__, fault)
+        return
+    try:
+        await grown.take_place(epoch)
+    finally:
+        await grown.close()

@@ -10,6 +10,7 @@ import time
 import uuid
 from collections.abc import Awaitable, Callable, Sequence
 from contextlib import suppress
+from functools import partial
 from typing import TYPE_CHECKING, TypeVar
 
 from job_host.catalogue import growth, jobs
@@ -19,6 +20,7 @@ from job_host.service.history.coprocess import CoProcessEnded
 from job_host.service.history.engine import Engine, ReplayDiffers
 from job_host.service.keepers.base_making import BaseMaking
 from job_host.service.keepers.due import Due
+from job_host.service.keepers.grown_process import renew
 from job_host.service.keepers.keeper import Compaction, Fatal, Keeper, check_catalogue, first_of, needed
 from job_host.service.keepers.local_logs import CatalogueGrew, LocalLogs
 from job_host.service.keepers.postgres_compacting import PostgresCompacting
@@ -260,7 +262,7 @@ class PostgresKeeper(Keeper):
         if self._jobs is None:
             await self._open_doors(term, begun)
         rounds = [term.commit_rounds(), term.desk.serve(), term.desk.watch(), self.leases.watch(term), self._prune(store, term)]
-        rounds.append(self._compacting.run(self._making, term))
+        rounds.append(self._compacting.run(self._making, term, partial(renew, self._logs, store, term)))
         if self._jobs is not None:
             rounds.append(self._lead_jobs(store, term, begun))
         try:

@@ -5,7 +5,7 @@ from __future__ import annotations
 import asyncio
 import logging
 import time
-from collections.abc import Callable, Sequence
+from collections.abc import Awaitable, Callable, Sequence
 from contextlib import suppress
 from dataclasses import replace
 
@@ -51,12 +51,15 @@ class PostgresCompacting:
         async with self.turn:
             return await bases.put(made)
 
-    async def run(self, making: BaseMaking, term: Term) -> None:
-        """Makes a base whenever one is due, for ever."""
+    async def run(self, making: BaseMaking, term: Term, renew: Callable[[], Awaitable[None]]) -> None:
+        """Makes a base whenever one is due, for ever. Behind each, `renew` lets the engine's co-process begin with it."""
         while True:
             await asyncio.sleep(LOOK_SECONDS)
             if self._due.is_now(term.engine) and await self.can():
-                await self.compact(making, term.engine, term.committed)
+                one = await self.compact(making, term.engine, term.committed)
+                if not one.failure:
+                    async with self.turn:
+                        await renew()
 
     async def compact(self, making: BaseMaking, engine: Engine, until: int) -> Compaction:
         """Makes a base of the first operations of an engine, all of which are kept, and returns what became of it.

@@ -9,25 +9,19 @@ from collections.abc import Sequence
 from job_host.catalogue.faults import NoVerdict
 from job_host.catalogue.jobs import ForWorkers, JobFile, JobsRefused, ServedJobs
 from job_host.catalogue.versions import read_for_workers
-from job_host.service.history.coprocess import CatalogueRefused, CoProcessEnded
-from job_host.service.history.engine import Engine, ReplayDiffers
+from job_host.service.history.engine import Engine
 from job_host.service.keepers.folder_changes import known_files
-from job_host.service.keepers.grown_process import GrownProcess
+from job_host.service.keepers.grown_process import FAILED, GrownProcess, brought_on
 from job_host.service.keepers.job_changes import JobChanges, check_folder, kept_change
-from job_host.service.keepers.local_logs import CatalogueGrew, LocalLogs
+from job_host.service.keepers.local_logs import LocalLogs
 from job_host.service.keepers.postgres_term import PostgresTerm
 from job_host.service.problems import Problem, unavailable
 from job_host.service.settings import ServeSettings
 from job_host.service.stores.postgres import PostgresStore
-from job_host.service.stores.postgres_bases import BaseDamaged, BaseGone
-from job_host.service.stores.postgres_connection import LOST, NoPrimary
 from job_host.service.versions.book import JobBook
 from job_host.service.versions.changes import Change, Growth
 
 log = logging.getLogger(__name__)
-
-# What ends a co-process that is to take another one's place.
-FAILED = (CoProcessEnded, CatalogueRefused, CatalogueGrew, ReplayDiffers, BaseDamaged, BaseGone, NoPrimary, *LOST)
 
 
 class PostgresJobs:
@@ -96,21 +90,9 @@ class PostgresJobs:
     async def grown(self, store: PostgresStore, engine: Engine, line: bytes, epoch: int) -> GrownProcess:
         """A co-process with a catalogue that has grown, which knows what the table has."""
         try:
-            opened = await self._logs.open(line)
+            return await brought_on(self._logs, store, engine, line, epoch)
         except FAILED as fault:
             raise unavailable("CoProcessEnded", f"nothing is changed: {type(fault).__name__} {fault}") from fault
-        self._logs.keep(opened)
-        grown = GrownProcess(opened.process, store, engine, epoch, opened.number)
-        try:
-            if opened.number > engine.entered:
-                raise BaseGone(f"the base of {opened.number} operations has more than are known here")
-            await grown.bring_on()
-        except BaseException as fault:
-            await grown.close()
-            if isinstance(fault, FAILED):
-                raise unavailable("CoProcessEnded", f"nothing is changed: {type(fault).__name__} {fault}") from fault
-            raise
-        return grown
 
     async def begin(self, changes: JobChanges, book: JobBook, served: ServedJobs) -> None:
         """Takes in what the folder of a new leader changes. A file that a version was made of before may be an old one."""
