@@ -99,6 +99,22 @@ async def test_who_did_what_goes_with_a_purge(basing: Make) -> None:
         assert [[row[0] for row in rows] for rows in await done_in(instance.url, (3,))] == [["stop", "start"]]
 
 
+async def test_a_base_of_fewer_operations_than_are_known(basing: Make) -> None:
+    """Behind it stand others, as if they had come while it was made: a purge of what it has, too."""
+    made, every = basing(), (1, 2, 3, 4, 5)
+    async with running(made) as instance:
+        await make_history(instance.url)
+        before, done, keeper = await lists(instance.url), await done_in(instance.url, every), keeper_of(instance)
+        base = await keeper._making.make(engine_of(instance), 6)
+        assert base is not None and await operations_in(made) == [1, *range(7, 15)]
+        assert [row[0] for row in done[0]] == ["purge", "start"]
+        async with running(made, "follower") as two:
+            assert await done_in(two.url, every) == done
+    async with running(made) as instance:
+        assert (engine_of(instance).based, engine_of(instance).entered) == (6, 14)
+        assert (await lists(instance.url), await done_in(instance.url, every)) == (before, done)
+
+
 async def test_a_takeover_begins_with_a_base_and_restarts_what_failed_before_it(basing: Make) -> None:
     """A group of a chunk step was checkpointed before the base: the restart goes on behind it."""
     made = basing()

@@ -318,7 +318,8 @@ async def test_a_process_that_takes_over_a_catalogue_begins_with_the_base(basing
             keeper, engine = keeper_of(instance), engine_of(instance)
             store: Any = keeper._store
             jobs = PostgresJobs(made, keeper._logs, keeper._compacting.turn)
-            process, line = engine.process, engine.process.catalogue[:-2] + b',{"id":"more","elements":[]}]}'
+            more = b',{"id":"more","elements":[{"kind":"step","id":"s","batchlet":{"ref":"ok"}}]}]}'
+            process, line = engine.process, engine.process.catalogue[:-2] + more
             await jobs.follow(store, engine, line, keeper.epoch)
             assert engine.process is not process and (engine.process.catalogue, process.has_ended) == (line, True)
         assert (await lists(one.url))[:4] == (await lists(two.url))[:4]
