@@ -211,6 +211,33 @@ async def test_who_loses_its_connection_just_behind_a_base_goes_on(basing: Make,
         assert (engine_of(one), started) == (engine, [])
 
 
+async def test_an_operation_that_is_not_kept_yet_stands_behind_the_base(basing: Make) -> None:
+    """The leader's row is locked from outside, so that its commit waits. A base is made meanwhile, and the key isn't lost."""
+    made = basing(takeover_after=60.0)
+    async with running(made) as instance:
+        caller = Caller(instance.url, "one")
+        await caller.start("short")
+        async with table_of(made) as table:
+            lock = table.transaction()
+            await lock.start()
+            await table.fetch("select epoch from job_host_leader for update")
+            starting = asyncio.create_task(caller.start("wide", key="open"))
+
+            async def is_entered() -> bool:
+                return engine_of(instance).entered == 2
+
+            await until(is_entered)
+            assert (await compact(instance)).failure == "" and not starting.done()
+            assert (await bases_in(made), engine_of(instance).based) == ([(1, 1)], 1)
+            await lock.rollback()
+        assert (await starting).told["executionId"] == 2
+        assert await operations_in(made) == [1, 2]
+        await compact(instance)
+    async with running(made) as instance:
+        assert (await Caller(instance.url, "one").start("wide", key="open")).told["executionId"] == 2
+        assert engine_of(instance).entered == 2
+
+
 async def test_two_instances_make_one_base_under_load(basing: Make, monkeypatch: pytest.MonkeyPatch) -> None:
     """Each time one of them finds that the other's has taken the place of the one that it began with, or has nothing to do."""
     put, answers = PostgresBases.put, list[bool]()

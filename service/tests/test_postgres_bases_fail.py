@@ -7,19 +7,21 @@ import os
 import signal
 import sys
 from collections.abc import Callable
+from dataclasses import replace
+from datetime import time as time_of_day
 from pathlib import Path
 from typing import Any
 
 import asyncpg
 import pytest
 from based import lists, make_history
-from instances import COMMAND, Caller, Instance, running
+from instances import COMMAND, Caller, Instance, running, until
 from kept import engine_of, until_epoch
 from postgres_bases import Halt, bases_in, compact, done_in, keeper_of, operations_in, settle, table_of, tables_in
 from test_new_history import check_nothing_is_known, fail_first
 from test_store_version import THIS_VERSION, check_filled, fill, refusal, version_of
 
-from job_host.service.keepers import base_making
+from job_host.service.keepers import base_making, due, postgres_compacting
 from job_host.service.keepers.local_logs import LocalLogs
 from job_host.service.keepers.postgres_jobs import PostgresJobs
 from job_host.service.settings import ServeSettings
@@ -255,6 +257,28 @@ async def test_a_batchctl_that_makes_no_base(stand_in: Make, monkeypatch: pytest
         assert told in (await compact(instance)).failure
         assert await tables_in(made) == before
         assert (await Caller(instance.url, "two").finish(4)).operations == 15
+
+
+async def test_a_batchctl_that_can_not_compact_makes_no_base(
+    stand_in: Make, monkeypatch: pytest.MonkeyPatch, caplog: pytest.LogCaptureFixture, tmp_path: Path
+) -> None:
+    """With --compact-at the service doesn't start."""
+    made, old = stand_in(), tmp_path / "old_batchctl"
+    helpless = 'case " $* " in *" --help "*) echo "script --log --tags"; exit;; esac'
+    old.write_text(f'#!/bin/sh\n{helpless}\nexec {made.batchctl[0]} "$@"\n')
+    old.chmod(0o755)
+    monkeypatch.setattr(due, "MANY", 1)
+    monkeypatch.setattr(postgres_compacting, "LOOK_SECONDS", 0.05)
+    async with running(replace(made, batchctl=(str(old),))) as instance:
+        await Caller(instance.url).start("short")
+
+        async def is_logged() -> bool:
+            return "has no `script --compact`, so operations in PostgreSQL aren't compacted" in caplog.text
+
+        await until(is_logged)
+        assert (await Caller(instance.url).start("short")).operations == 2 and await bases_in(made) == []
+    at = time_of_day(3, 30)
+    assert "which --compact-at needs" in await refusal(replace(made, batchctl=(str(old),), compact_at=at))
 
 
 async def test_a_server_that_is_gone_keeps_a_base_from_being_made(basing: Make, monkeypatch: pytest.MonkeyPatch) -> None:

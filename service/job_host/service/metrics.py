@@ -53,7 +53,7 @@ class Metrics:
         self.left = Gauge("jobhost_retention_left", "Job instances that the last round has left to purge", **given)
         self.base_rows = Gauge("jobhost_log_base_rows", "Rows in the base of the log", **given)
         self.behind = Gauge("jobhost_log_operations_behind_base", "Operations behind the base of the log", **given)
-        self.compacting = Gauge("jobhost_compaction_seconds", "Seconds that calls waited for the last compaction", **given)
+        self.compacting = Gauge("jobhost_compaction_seconds", "Seconds of the last compaction", **given)
         self.compacted_at = Gauge("jobhost_compaction_begun", "When the last compaction began, in seconds since 1970", **given)
         self.not_compacted = Gauge("jobhost_compaction_failed", "1 if the last compaction failed", **given)
 
