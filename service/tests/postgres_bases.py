@@ -88,10 +88,10 @@ def handed(patch: pytest.MonkeyPatch) -> list[bytes]:
 
 
 class Halt:
-    """Halts a step of an instance before it, or behind it, until it is cancelled."""
+    """Halts a step of an instance before it, or behind it, until `go_on` is set."""
 
     def __init__(self, patch: pytest.MonkeyPatch, owner: Any, name: str, is_before: bool, passed: int = 0) -> None:
-        self.reached = asyncio.Event()
+        self.reached, self.go_on = asyncio.Event(), asyncio.Event()
         self._passed = passed
         step: Callable[..., Any] = getattr(owner, name)
 
@@ -101,7 +101,7 @@ class Halt:
                 return await step(*given, **more)
             told = None if is_before else await step(*given, **more)
             self.reached.set()
-            await asyncio.Event().wait()
+            await self.go_on.wait()
             return told
 
         patch.setattr(owner, name, halt)

@@ -91,6 +91,7 @@ async def test_a_leader_that_is_gone_between_two_steps(stand_in: Make, monkeypat
         await cut(made, one)
         making.cancel()
         await asyncio.wait([making])
+        halt.go_on.set()
     is_kept = step == "committed"
     assert (await tables_in(made) == before) != is_kept
     if is_kept:
@@ -293,7 +294,7 @@ async def test_a_server_that_is_gone_keeps_a_base_from_being_made(basing: Make, 
         async with table_of(made) as table:
             ended = "state = 'idle in transaction' and datname = current_database()"
             await table.execute(f"select pg_terminate_backend(pid) from pg_stat_activity where {ended}")
-        making.cancel()
+        halt.go_on.set()
         await asyncio.wait([making])
         assert await tables_in(made) == before and instance.service.keeper.epoch == 1
         assert instance.service.keeper.compaction is not None and instance.service.keeper.compaction.failure
