@@ -76,7 +76,7 @@ def check_held(program: Program, log: Path) -> None:
         want("a log that was compacted", program.over(log, GIVEN + b"\n"), IN_USE)
         holder.stdin.close()
         want("the one that compacted it", holder.wait(), DONE)
-    want("its log", program.over(log, COUNT).output, b'{"job_instance_count":2}\n')
+    want("its log", program.over(log, COUNT).output, b'{"count":2}\n')
 
 
 def check_link(program: Program, log: Path) -> None:
@@ -90,7 +90,7 @@ def check_link(program: Program, log: Path) -> None:
     want("a link: it", os.readlink(log), str(place))
     want("a link: the log behind it", head_of(base_of(place)).count, 1)
     want("a hard link", place.with_name("kept").read_bytes(), before)
-    want("a link: files", sorted(path.name for path in place.parent.iterdir()), ["kept", "log", "place"])
+    want("a link: files", sorted(path.name for path in place.parent.iterdir()), ["kept", place.name])
 
 
 def check_no_room(program: Program, log: Path) -> None:
