@@ -37,17 +37,20 @@ def test_each_step_has_its_time(jobs: Path) -> None:
     assert read.for_workers["a"].steps == {"load": {"timeout": 1}, "copy": {"timeout": 4_294_967_295}}
     # It is no job file: the folder has one job.
     assert [job["id"] for job in json.loads(read.line)["jobs"]] == ["a"]
+    assert refused(jobs, json.dumps({"steps": {"load": {"timeout": "P1DT1H"}, "copy": {"timeout": "PT1M30S"}}})) == []
+    assert read_folder(jobs, ()).for_workers["a"].steps == {"load": {"timeout": 90_000}, "copy": {"timeout": 90}}
     for nothing in ("{}", '{"steps": {}}', '{"steps": {"load": {}}}'):
         assert refused(jobs, nothing) == [] and read_folder(jobs, ()).for_workers["a"].steps == {}
 
 
 IN_JOB, IN_LOAD = 'settings in job "a"', 'settings in job "a", step "load" (number 0)'
-SECONDS = 'expected a whole number of seconds from 1 to 4294967295 as "timeout"'
+SECONDS = 'expected a whole number of seconds from 1 to 4294967295, or a duration as `PT90S`, as "timeout"'
+MEMBERS = '"steps" or "restart"'
 FAULTS = [
     ("", "1:1: NotJson: expected a value, found the end of the file"),
     (b'{"\xff": 1}', "1:3: NotJson: expected UTF-8, found the byte 0xff"),
     ("[]", f"1:1: {IN_JOB}: expected an object, the settings, found `[]`"),
-    ('{"step": {}}', f'1:2: {IN_JOB}: expected "steps" in the settings, found "step"; did you mean `steps`?'),
+    ('{"step": {}}', f'1:2: {IN_JOB}: expected {MEMBERS} in the settings, found "step"; did you mean `steps`?'),
     ('{"steps": []}', f"1:11: {IN_JOB}: expected an object, steps, found `[]`"),
     ('{"steps": {"laod": {}}}', f'1:12: {IN_JOB}: expected the id of a step, found "laod"; did you mean `load`?'),
     ('{"steps": {"both": {}}}', f'1:12: {IN_JOB}: expected the id of a step, found "both"'),
@@ -59,7 +62,21 @@ FAULTS = [
     ),
     *(
         ('{"steps": {"load": {"timeout": %s}}}' % wrong, f"1:32: {IN_LOAD}: {SECONDS}, found `{wrong}`")
-        for wrong in ("0", "-1", "1.5", '"5"', "true", "null", "4294967296", "{}")
+        for wrong in (
+            "0",
+            "-1",
+            "1.5",
+            '"5"',
+            '"PT0S"',
+            '"PT"',
+            '"P1M"',
+            '"1H"',
+            '"PT1.5S"',
+            "true",
+            "null",
+            "4294967296",
+            "{}",
+        )
     ),
 ]
 

@@ -27,7 +27,7 @@ MAY_IMPORT: Mapping[str, Set[str]] = {
 ORDER_OF_SERVICE = (
     *("pages", "problems", "settings"),
     *("history", "versions", "terms", "stores", "keepers", "http", "routes"),
-    *("retention", "metrics", "server"),
+    *("retention", "policies", "metrics", "server"),
 )
 
 Graph = Mapping[str, Set[str]]

@@ -226,6 +226,7 @@ def read_job_file(given: JobFile, allowed: Collection[str]) -> ReadFile:
         found = SettingsFinder(given.settings.name, given.settings.data, jobs_of_file(file)[0])
         read.beside += found.told
         found.add_to(translator.steps)
+        read.for_workers = replace(read.for_workers, policies=found.policies)
     return read
 
 

@@ -8,6 +8,7 @@ from dataclasses import dataclass, field
 from pathlib import Path
 from typing import Any
 
+from job_host.catalogue.policies import NO_POLICIES, JobPolicies
 from job_host.catalogue.properties import JobProperties
 from job_host.catalogue.text import NotJson, Reader, one_line, plain
 from job_host.protocol.lines import compact
@@ -18,10 +19,14 @@ Steps = dict[str, dict[str, Any]]
 
 @dataclass(frozen=True)
 class ForWorkers:
-    """What claims tell of a job that has no place in a catalogue: its properties, and what workers do for its steps."""
+    """What claims tell of a job that has no place in a catalogue: its properties, and what workers do for its steps.
+
+    Its policies stand beside that: the leader goes by them.
+    """
 
     properties: JobProperties = field(default_factory=JobProperties)
     steps: Steps = field(default_factory=dict)
+    policies: JobPolicies = NO_POLICIES
 
 
 class JobsRefused(Exception):

@@ -8,11 +8,11 @@ from pathlib import Path
 
 from job_host.catalogue.faults import NOBODY, WARNING, Note, Owner
 from job_host.catalogue.forms import likely
+from job_host.catalogue.patterns import ANY_CHARACTER, ANYTHING
 from job_host.catalogue.text import Member, Members, Source, Value
 from job_host.catalogue.tree import ELEMENT, Element, Job, Listing, listings_of, shown
 from job_host.protocol import executables
 
-ANYTHING, ANY_CHARACTER = "*", "?"
 MOST_SEARCHES = 100
 # What stands in regular expressions, and seldom in an exit status.
 REGULAR = re.compile(r"\.[*+?]|[|\[\]^$\\]|\(.*\)")

@@ -48,7 +48,7 @@ async def failed(client: Client, given: argparse.Namespace) -> int:
     rows, counts = await found(client, given, ["FAILED"])
     shown = rows["jobInstances"]
     for one in shown:
-        show_to_restart(console, one)
+        show_to_restart(console, one, given.utc)
     if not shown:
         console.print("no job instance is FAILED")
     if counts["FAILED"] > len(shown):
@@ -61,7 +61,7 @@ async def open_items(client: Client, given: argparse.Namespace) -> int:
     console = Console(highlight=False, soft_wrap=True)
     rows, counts = await found(client, given, ["FAILED", "STOPPED"])
     for one in rows["jobInstances"]:
-        show_to_restart(console, one)
+        show_to_restart(console, one, given.utc)
     for line in lines(rows, given.utc):
         console.print(plain(line))
     count = sum(map(len, rows.values()))
@@ -99,7 +99,7 @@ def place(one: Told) -> str:
     return f"step {one['stepName']}" + ("" if one["partition"] is None else f", partition {one['partition']}")
 
 
-def show_to_restart(console: Console, one: Told) -> None:
+def show_to_restart(console: Console, one: Told, in_utc: bool) -> None:
     number = one["executionId"]
     console.print(plain(f"{job_text(one)}: job execution {number} is {one['batchStatus']}, exit status {one['exitStatus']}"))
     for cause in one["causes"]:
@@ -109,4 +109,6 @@ def show_to_restart(console: Console, one: Told) -> None:
         console.print(plain_lines(text), end="")
     if one["moreCauses"]:
         console.print(f"  and {one['moreCauses']} more work items")
+    if "restartTime" in one:
+        console.print(plain(f"  its policy restarts it at {clock(one['restartTime'], in_utc)}"))
     console.print(plain(f"  jobhost restart {number}"))

@@ -112,7 +112,9 @@ def add_lists(subcommands: Subcommands[argparse.ArgumentParser]) -> None:
     parser = add_command(subcommands, "list", shown.list_instances, "shows the newest job instances")
     add_count(parser)
     add_utc(parser)
-    add_count(add_command(subcommands, "failed", open_items.failed, "says what failed, why, and how it is restarted"))
+    parser = add_command(subcommands, "failed", open_items.failed, "says what failed, why, and how it is restarted")
+    add_count(parser)
+    add_utc(parser)
     told = "says what failed or was stopped, runs long, has a late lease, or waits for a worker"
     parser = add_command(subcommands, "open", open_items.open_items, told)
     add_count(parser)

@@ -27,6 +27,7 @@ from job_host.service.http.requests import Asked, Gate, Host, Places, Route, ref
 from job_host.service.keepers.embedded import EmbeddedKeeper
 from job_host.service.keepers.keeper import Fatal, Keeper
 from job_host.service.metrics import Metrics
+from job_host.service.policies.leading import Policies
 from job_host.service.problems import Problem, unavailable
 from job_host.service.retention.purging import Purging
 from job_host.service.retention.rounds import Retention
@@ -105,6 +106,7 @@ class Service:
         archive = begun_archive(settings)
         self.purging = Purging(self.keeper, archive)
         self.retention = Retention(self.keeper, settings, self.purging)
+        self.policies = Policies(self.keeper)
         gate = Gate(settings.bounds)
         self.host = Host(settings, self.keeper, self.access, gate, waits, self.ending, self.purging.purge, archive)
         self.port = settings.port
@@ -308,9 +310,12 @@ class Service:
             log.error("the jobs aren't read again: %s", fault)
 
     async def keep(self) -> None:
-        """Keeps the history until the keeper ends, and purges meanwhile what is over for long. Raises Fatal."""
+        """Keeps the history until the keeper ends. Meanwhile what is over for long is purged, and policies are gone by.
+
+        Raises Fatal.
+        """
         loop = asyncio.get_running_loop()
-        beside = [loop.create_task(self.retention.run())]
+        beside = [loop.create_task(one) for one in (self.retention.run(), self.policies.run())]
         if self.host.archive is not None:
             beside.append(loop.create_task(make_ready(self.host.archive)))
         try:

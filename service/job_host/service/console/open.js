@@ -45,6 +45,10 @@ function causesCell({ causes, moreCauses }, isOpen) {
   }), more(moreCauses)];
 }
 
+function restartCell({ restartTime }) {
+  return restartTime ? element("p", {}, "Restarted by its policy at ", when(restartTime)) : "";
+}
+
 // `data` is a page of /batch/open; `to` tells the address of a page.
 export function openSection(data, query, may, to) {
   const rows = data.jobInstances;
@@ -58,7 +62,7 @@ export function openSection(data, query, may, to) {
     key: row.executionId,
     cells: [
       executionLink(row.executionId), jobOf(row), badge(row.batchStatus), causesCell(row, isOpen),
-      when(row.endTime),
+      [when(row.endTime), restartCell(row)],
       ...(may("operate") ? [button("restart", "Restart", { execution: row.executionId }, "small")] : []),
     ],
   }));

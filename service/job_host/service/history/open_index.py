@@ -191,6 +191,10 @@ class OpenIndex:
         found = merge(*(reversed(numbers) for numbers in self._named(statuses, job)), reverse=True)
         return list(islice(found, page.start, page.start + page.size))
 
+    def all_restartable(self, statuses: tuple[str, ...]) -> list[int]:
+        """All job executions by which a job instance is open, in no order."""
+        return [one for numbers in self._named(statuses, None) for one in numbers]
+
     def waiting(self, job: str | None, page: Page) -> list[int]:
         """Job executions that aren't finished, and of which nothing is busy, in the order in which claims find them."""
         return list(islice(merge(*self._named((WAITING,), job)), page.start, page.start + page.size))

@@ -96,6 +96,8 @@ class Keeper(ABC):
         self.names = PLAIN_NAMES if served.files is None else VERSIONED_NAMES
         self.book: JobBook | None = None
         self.changes: JobChanges | None = None
+        # The moments at which the leader restarts FAILED job executions by itself.
+        self.restart_times: Mapping[int, int] = {}
         # The last compaction that this instance has tried, or that is under way.
         self.compaction: Compaction | None = None
 

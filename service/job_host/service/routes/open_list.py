@@ -2,7 +2,7 @@
 
 from __future__ import annotations
 
-from collections.abc import Sequence
+from collections.abc import Mapping, Sequence
 from typing import Any
 
 from aiohttp import web
@@ -23,18 +23,26 @@ async def list_open(asked: Asked) -> web.StreamResponse:
     statuses = tuple(one for one in RESTARTABLE if one in given)
     wanted = OpenWanted(asked.page_of_large_rows(), statuses, asked.request.query.get("jobName"))
     found = await open_items(asked.keeper, wanted, asked.at_least)
-    return asked.answer(shown(found, wanted), found.seen)
+    restart_times = asked.keeper.restart_times if asked.keeper.term is not None else {}
+    return asked.answer(shown(found, wanted, restart_times), found.seen)
 
 
-def shown(found: Open, wanted: OpenWanted) -> dict[str, Any]:
+def shown(found: Open, wanted: OpenWanted, restart_times: Mapping[int, int]) -> dict[str, Any]:
     return {
-        "jobInstances": [{**views.job_execution_row(one.execution), **causes(one)} for one in found.to_restart],
+        "jobInstances": [to_restart(one, restart_times) for one in found.to_restart],
         "long": [long(one) for one in found.long],
         "late": None if found.late is None else [late(by, of) for by, of in found.late],
         "waiting": None if found.waiting is None else [views.job_execution_row(one) for one in found.waiting],
         "counts": found.counts,
         "more": found.has_more(wanted),
     }
+
+
+def to_restart(one: ToRestart, restart_times: Mapping[int, int]) -> dict[str, Any]:
+    """A job instance, and when its policy restarts it, if it does."""
+    due = restart_times.get(one.execution["execution"])
+    told = {**views.job_execution_row(one.execution), **causes(one)}
+    return told if due is None else {**told, "restartTime": moment(due)}
 
 
 def causes(one: ToRestart) -> dict[str, Any]:

@@ -1,0 +1,44 @@
+"""What the settings of a job let the leader do by itself: policies that stand beside the job, and belong to its version."""
+
+from __future__ import annotations
+
+from dataclasses import dataclass
+
+from job_host.catalogue.patterns import matches
+
+USUAL_RESTARTS = 3
+USUAL_WAIT, USUAL_LONGEST_WAIT = 30, 3_600
+
+
+@dataclass(frozen=True)
+class RestartPolicy:
+    """When a FAILED job execution is restarted: at most so many times a job instance, and after which wait in seconds."""
+
+    after_lost_worker: bool = False
+    exit_statuses: tuple[str, ...] = ()
+    most: int = USUAL_RESTARTS
+    wait: int = USUAL_WAIT
+    longest_wait: int = USUAL_LONGEST_WAIT
+
+    def covers(self, exit_status: str, is_lost: bool) -> bool:
+        """Whether a work item that failed so is a cause for a restart."""
+        return (is_lost and self.after_lost_worker) or any(matches(one, exit_status) for one in self.exit_statuses)
+
+    def wait_after(self, restarts: int) -> int:
+        """The seconds before the next restart. Each restart that was made doubles them, up to the longest."""
+        doubled = self.wait << min(restarts, self.longest_wait.bit_length())
+        return min(doubled, self.longest_wait)
+
+
+@dataclass(frozen=True)
+class JobPolicies:
+    """The policies of one version of a job. What isn't there isn't done."""
+
+    restart: RestartPolicy | None = None
+
+    @property
+    def is_empty(self) -> bool:
+        return self == NO_POLICIES
+
+
+NO_POLICIES = JobPolicies()
