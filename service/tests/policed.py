@@ -16,7 +16,7 @@ from job_host.service.policies import rounds
 from job_host.service.policies.leading import Policies
 from job_host.service.policies.rounds import Rounds
 from job_host.service.settings import ServeSettings
-from job_host.service.terms import moments
+from job_host.service.terms.moments import clock
 
 TWO = """<step id="first" next="last"><batchlet ref="a"/></step><step id="last"><batchlet ref="b"/></step>
 """
@@ -29,7 +29,7 @@ class Ahead:
         self.seconds = seconds
 
     def __call__(self) -> int:
-        return moments.clock() + int(self.seconds * 1_000)
+        return clock() + int(self.seconds * 1_000)
 
 
 def hasten(monkeypatch: pytest.MonkeyPatch) -> None:

@@ -9,6 +9,7 @@ from pathlib import Path
 import pytest
 
 from job_host.catalogue.folder import read_folder
+from job_host.catalogue.policies import JobPolicies, JobTimeout, RestartPolicy
 from job_host.commands.command_line import main
 
 JSL = """<job id="a" xmlns="https://jakarta.ee/xml/ns/jakartaee" version="2.0">
@@ -45,7 +46,8 @@ def test_each_step_has_its_time(jobs: Path) -> None:
 
 IN_JOB, IN_LOAD = 'settings in job "a"', 'settings in job "a", step "load" (number 0)'
 SECONDS = 'expected a whole number of seconds from 1 to 4294967295, or a duration as `PT90S`, as "timeout"'
-MEMBERS = '"steps" or "restart"'
+CAUSE = '"afterLostWorker": true, or "exitStatuses", in restart'
+MEMBERS = '"steps", "timeout", "grace" or "restart"'
 FAULTS = [
     ("", "1:1: NotJson: expected a value, found the end of the file"),
     (b'{"\xff": 1}', "1:3: NotJson: expected UTF-8, found the byte 0xff"),
@@ -59,6 +61,36 @@ FAULTS = [
     (
         '{"steps": {"load": {"time": 5}}}',
         f'1:21: {IN_LOAD}: expected "timeout" in the step, found "time"; did you mean `timeout`?',
+    ),
+    ('{"grace": 5}', f'1:11: {IN_JOB}: expected "timeout" beside "grace", found none'),
+    ('{"timeout": "1h"}', f'1:13: {IN_JOB}: {SECONDS}, found `"1h"`'),
+    ('{"restart": 5}', f"1:13: {IN_JOB}: expected an object, restart, found `5`"),
+    (
+        '{"restart": {}}',
+        f"1:13: {IN_JOB}: expected {CAUSE}, found `{{}}`",
+    ),
+    (
+        '{"restart": {"afterLostWorker": false}}',
+        f'1:13: {IN_JOB}: expected {CAUSE}, found `{{"afterLostWorker": false}}`',
+    ),
+    ('{"restart": {"afterLostWorker": 1}}', f'1:33: {IN_JOB}: expected true or false as "afterLostWorker", found `1`'),
+    ('{"restart": {"exitStatuses": []}}', f'1:30: {IN_JOB}: expected a list of 1 to 100 texts as "exitStatuses", found `[]`'),
+    (
+        '{"restart": {"exitStatuses": ["A", ""]}}',
+        f'1:36: {IN_JOB}: expected a text of 1 to 256 bytes as "exitStatuses", found `""`',
+    ),
+    (
+        '{"restart": {"afterLostWorker": true, "most": 0}}',
+        f'1:47: {IN_JOB}: expected a whole number from 1 to 1000 as "most", found `0`',
+    ),
+    (
+        '{"restart": {"afterLostWorker": true, "wait": "PT2H"}}',
+        f'1:13: {IN_JOB}: expected at most 3600 seconds, the "longestWait", as "wait", found 7200',
+    ),
+    (
+        '{"restart": {"afterLostworker": true}}',
+        f'1:14: {IN_JOB}: expected "afterLostWorker", "exitStatuses", "most", "wait" or "longestWait" in restart, '
+        'found "afterLostworker"; did you mean `afterLostWorker`?',
     ),
     *(
         ('{"steps": {"load": {"timeout": %s}}}' % wrong, f"1:32: {IN_LOAD}: {SECONDS}, found `{wrong}`")
@@ -84,6 +116,23 @@ FAULTS = [
 @pytest.mark.parametrize(("text", "fault"), FAULTS)
 def test_a_fault_has_its_place(jobs: Path, text: str | bytes, fault: str) -> None:
     assert refused(jobs, text) == [f"a.settings.json:{fault}"]
+
+
+def test_policies_are_read(jobs: Path) -> None:
+    restart = {"afterLostWorker": True, "exitStatuses": ["A*"], "most": 2, "wait": "PT1M", "longestWait": 600}
+    assert refused(jobs, json.dumps({"restart": restart, "timeout": "PT1H", "grace": 5})) == []
+    expected = JobPolicies(RestartPolicy(True, ("A*",), 2, 60, 600), JobTimeout(3_600, 5))
+    assert read_folder(jobs, ()).for_workers["a"].policies == expected
+    assert refused(jobs, '{"restart": {"exitStatuses": ["B"]}, "timeout": 1}') == []
+    usual = JobPolicies(RestartPolicy(False, ("B",), 3, 30, 3_600), JobTimeout(1, 60))
+    assert read_folder(jobs, ()).for_workers["a"].policies == usual
+    assert refused(jobs, "{}") == [] and read_folder(jobs, ()).for_workers["a"].policies == JobPolicies()
+
+
+def test_a_job_that_may_not_be_restarted_has_no_policy_for_that(jobs: Path) -> None:
+    (jobs / "a.xml").write_text(JSL.replace('id="a"', 'id="a" restartable="false"'))
+    told = f'a.settings.json:1:13: {IN_JOB}: expected no "restart" in a job that may not be restarted, found one'
+    assert refused(jobs, '{"restart": {"afterLostWorker": true}}') == [told]
 
 
 def test_all_faults_are_told(jobs: Path, capfd: pytest.CaptureFixture[str]) -> None:

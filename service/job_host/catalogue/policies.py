@@ -8,6 +8,7 @@ from job_host.catalogue.patterns import matches
 
 USUAL_RESTARTS = 3
 USUAL_WAIT, USUAL_LONGEST_WAIT = 30, 3_600
+USUAL_GRACE = 60
 
 
 @dataclass(frozen=True)
@@ -31,14 +32,19 @@ class RestartPolicy:
 
 
 @dataclass(frozen=True)
+class JobTimeout:
+    """After how many seconds a job execution is stopped, and after how many more it is late if it hasn't ended."""
+
+    seconds: int
+    grace: int = USUAL_GRACE
+
+
+@dataclass(frozen=True)
 class JobPolicies:
     """The policies of one version of a job. What isn't there isn't done."""
 
     restart: RestartPolicy | None = None
-
-    @property
-    def is_empty(self) -> bool:
-        return self == NO_POLICIES
+    timeout: JobTimeout | None = None
 
 
 NO_POLICIES = JobPolicies()

@@ -2,14 +2,14 @@
 
 from __future__ import annotations
 
-from collections.abc import Callable
+from collections.abc import Callable, Mapping
 from typing import Any
 
-from job_host.catalogue.policies import RestartPolicy
+from job_host.catalogue.policies import USUAL_GRACE, JobTimeout, RestartPolicy
 from job_host.catalogue.settings_reader import SettingsReader
-from job_host.catalogue.text import Value
+from job_host.catalogue.text import Members, Value
 
-RESTART = "restart"
+RESTART, TIMEOUT, GRACE = "restart", "timeout", "grace"
 AFTER_LOST_WORKER, EXIT_STATUSES = "afterLostWorker", "exitStatuses"
 MOST, WAIT, LONGEST_WAIT = "most", "wait", "longestWait"
 MOST_RESTARTS, MOST_PATTERNS = 1_000, 100
@@ -28,7 +28,7 @@ def read_restart(reader: SettingsReader, value: Value) -> RestartPolicy | None:
     }
     names = dict(zip(read, (AFTER_LOST_WORKER, EXIT_STATUSES, MOST, WAIT, LONGEST_WAIT)))
     found = {field: read[field](told[name]) for field, name in names.items() if name in told}
-    if len(found) < len(value.members) or None in found.values():
+    if not isinstance(value.held, Members) or len(found) < len(value.members) or None in found.values():
         return None
     policy = RestartPolicy(**found)
     return policy if is_sound(reader, value, policy) else None
@@ -47,3 +47,13 @@ def is_sound(reader: SettingsReader, value: Value, policy: RestartPolicy) -> boo
     else:
         return True
     return False
+
+
+def read_timeout(reader: SettingsReader, told: Mapping[str, Value]) -> JobTimeout | None:
+    """The time of the job, and the grace behind it. A grace without a time is at fault."""
+    owner = reader.job.owner()
+    read = {name: reader.seconds(told[name], owner, name) for name in (TIMEOUT, GRACE) if name in told}
+    if GRACE in told and TIMEOUT not in told:
+        reader.fault_at(told[GRACE].at, owner, f'"{TIMEOUT}" beside "{GRACE}"', "none")
+    seconds = read.get(TIMEOUT)
+    return None if seconds is None else JobTimeout(seconds, read.get(GRACE) or USUAL_GRACE)

@@ -87,8 +87,15 @@ def long(one: Told) -> str:
 
 
 def late(one: Told) -> str:
+    if one.get("timeout") is not None:
+        return overdue(one)
     of = f"work item {one['work']} of job execution {one['executionId']}, {place(one)}"
     return f"{of}: no sign of its worker {one['client']}, {span(one['leaseRemaining'])} of its lease are left"
+
+
+def overdue(one: Told) -> str:
+    of = f"job execution {one['executionId']} was asked to stop after {span(one['timeout'])}, and hasn't ended"
+    return of if one["work"] is None else f"{of}: worker {one['client']} has work item {one['work']}, {place(one)}"
 
 
 def waiting(one: Told, in_utc: bool) -> str:

@@ -44,7 +44,7 @@ class Metrics:
         self.waiting = Gauge("jobhost_claims_waiting", "Claims that wait for work", **given)
         self.open = Gauge("jobhost_open_job_instances", "Job instances to restart, by batch status", ["status"], **given)
         self.long = Gauge("jobhost_long_job_executions", "Job executions that run much longer than before", **given)
-        self.late = Gauge("jobhost_late_work_items", "Work items whose lease is late", **given)
+        self.late = Gauge("jobhost_late_work_items", "Work items whose lease, or whose job, is late", **given)
         self.vain = Gauge("jobhost_waiting_job_executions", "Job executions that wait though no worker asks", **given)
         self.takeover = Gauge("jobhost_takeover_seconds", "Seconds from the last new epoch to the first call", **given)
         self.purged = Gauge("jobhost_purged_job_instances", "Job instances of this history that retention purged", **given)

@@ -80,13 +80,22 @@ function line(kind, key, one, ...words) {
     ": job execution ", executionLink(one.executionId), ...words);
 }
 
+function lateLine(one) {
+  const of = one.work === null ? [] : [": worker ", told(one.client), ` has work item ${one.work}, `, place(one)];
+  if (one.timeout !== null) {
+    return line("late", one.work ?? `execution ${one.executionId}`, one,
+      ` was asked to stop after ${lasting(one.timeout)}, and hasn't ended`, ...of, ".");
+  }
+  return line("late", one.work, one, ", ", place(one),
+    ": no sign of its worker ", told(one.client), `, ${lasting(one.leaseRemaining)} of its lease are left.`);
+}
+
 // What isn't to be restarted, and yet has to be looked at.
 export function lookSection({ long, late, waiting }) {
   const lines = [
     ...long.map((one) => line("long", one.executionId, one,
       ` has run for ${lasting(one.seconds)}; the longest before took ${lasting(one.longestBefore)}.`)),
-    ...(late || []).map((one) => line("late", one.work, one, ", ", place(one),
-      ": no sign of its worker ", told(one.client), `, ${lasting(one.leaseRemaining)} of its lease are left.`)),
+    ...(late || []).map(lateLine),
     ...(waiting || []).map((one) => line("waiting", one.executionId, one,
       " waits since ", when(one.lastUpdatedTime), ": no worker asks for work.")),
   ];

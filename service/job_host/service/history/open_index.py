@@ -213,5 +213,9 @@ class OpenIndex:
     def _longest(self, job: str) -> int | None:
         return max(self.past(job), default=None)
 
+    def all_running(self) -> list[Running]:
+        """All that have begun, and aren't finished."""
+        return list(self._running.values())
+
     def running(self, execution: int) -> Running | None:
         return self._running.get(execution)

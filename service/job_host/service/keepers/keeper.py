@@ -12,6 +12,7 @@ from typing import TYPE_CHECKING, Any
 
 from job_host.catalogue.jobs import ForWorkers, ServedJobs
 from job_host.catalogue.names import PLAIN_NAMES, VERSIONED_NAMES
+from job_host.catalogue.policies import NO_POLICIES, JobPolicies
 from job_host.protocol.lines import query, read
 from job_host.service.history.actions import Action
 from job_host.service.history.answers import Answers
@@ -24,7 +25,7 @@ from job_host.service.terms.calls import SERVICE, SERVICE_SESSION, Call, Kept, L
 from job_host.service.terms.leases import Leases
 from job_host.service.terms.sessions import Silent
 from job_host.service.terms.term import Term
-from job_host.service.versions.book import JobBook
+from job_host.service.versions.book import FileNotKept, JobBook
 
 if TYPE_CHECKING:
     from job_host.service.keepers.job_changes import JobChanges
@@ -166,6 +167,13 @@ class Keeper(ABC):
         if self.book is not None:
             return self.book.for_workers(job)
         return (self.served.for_workers or {}).get(job, ForWorkers())
+
+    def policies(self, job: str) -> JobPolicies:
+        """The policies of a job of the catalogue, in this very version. There are none if its file isn't kept."""
+        try:
+            return self.for_workers(job).policies
+        except FileNotKept:
+            return NO_POLICIES
 
     @property
     def is_ready(self) -> bool:

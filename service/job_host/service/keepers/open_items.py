@@ -9,9 +9,9 @@ from typing import Any
 from job_host.protocol.lines import query, read
 from job_host.service.history.causes import Cause, causes_of
 from job_host.service.history.engine import Engine
-from job_host.service.history.open_index import FEW, RESTARTABLE, WAITING, Long, Running
-from job_host.service.history.work_items import Held
-from job_host.service.keepers.keeper import HeldBy, Keeper, Steps
+from job_host.service.history.open_index import FEW, RESTARTABLE, WAITING, Long
+from job_host.service.keepers.keeper import Keeper, Steps
+from job_host.service.keepers.late import LateBy, late_items, with_clients
 from job_host.service.pages import Page
 from job_host.service.problems import of_refusal
 from job_host.service.terms import moments
@@ -57,7 +57,7 @@ class Open:
 
     to_restart: Sequence[ToRestart]
     long: Sequence[Long]
-    late: Sequence[tuple[HeldBy, Running | None]] | None
+    late: Sequence[LateBy] | None
     waiting: Sequence[Told] | None
     counts: Mapping[str, int | None]
     seen: int
@@ -77,7 +77,7 @@ async def open_items(keeper: Keeper, wanted: OpenWanted, at_least: int = 0) -> O
         await steps.engine.open.settle()
         rows = await _to_restart(steps, wanted)
         waiting, in_vain = await _waiting(keeper, steps, wanted)
-        late = _late(keeper, steps.engine, wanted)
+        late = late_items(keeper, steps.engine, wanted.job)
         long = steps.engine.open.long(moments.clock(), wanted.job)
         counts = {status: steps.engine.open.count(status, wanted.job) for status in RESTARTABLE}
     lists = {"long": len(long), "late": None if late is None else len(late), WAITING: in_vain}
@@ -85,7 +85,7 @@ async def open_items(keeper: Keeper, wanted: OpenWanted, at_least: int = 0) -> O
     return Open(
         [ToRestart(told, shown, len(all_of)) for (told, all_of), shown in zip(rows, causes)],
         wanted.page.of(long),
-        None if late is None else await _held_by(keeper, wanted.page.of(late)),
+        None if late is None else await with_clients(keeper, wanted.page.of(late)),
         waiting,
         counts | lists,
         steps.seen,
@@ -120,20 +120,6 @@ async def _waiting(keeper: Keeper, steps: Steps, wanted: OpenWanted) -> tuple[li
     replies = await steps.ask([query("job_execution", execution=one) for one in numbers])
     told: list[Told] = [steps.engine.names.told(read(reply)["job_execution"]) for reply in replies]
     return told, steps.engine.open.count(WAITING, wanted.job)
-
-
-def _late(keeper: Keeper, engine: Engine, wanted: OpenWanted) -> list[tuple[Held, Running | None]] | None:
-    """The work items whose lease is late, by rising number."""
-    if keeper.term is None:
-        return None
-    held = [engine.held[work] for work in keeper.leases.late(engine.held)]
-    found = [(one, engine.open.running(one.execution)) for one in held]
-    return [(one, of) for one, of in found if wanted.job is None or (of is not None and of.job == wanted.job)]
-
-
-async def _held_by(keeper: Keeper, late: Sequence[tuple[Held, Running | None]]) -> list[tuple[HeldBy, Running | None]]:
-    names = await keeper.client_names([one.session for one, _ in late])
-    return [(HeldBy(one, names.get(one.session), keeper.leases.remaining(one.work)), of) for one, of in late]
 
 
 async def with_logs(keeper: Keeper, lists: Sequence[Sequence[Cause]]) -> list[list[Caused]]:

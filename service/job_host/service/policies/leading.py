@@ -8,6 +8,7 @@ from collections.abc import Callable
 from job_host.service.keepers.keeper import Keeper
 from job_host.service.policies.restarts import Restarts
 from job_host.service.policies.rounds import Rounds
+from job_host.service.policies.timeouts import Timeouts
 from job_host.service.terms import moments
 
 
@@ -17,8 +18,9 @@ class Policies:
     def __init__(self, keeper: Keeper, clock: Callable[[], int] = moments.clock) -> None:
         self._keeper = keeper
         self.restarts = Rounds(keeper, "restart policy", lambda term: Restarts(keeper, term, clock))
+        self.timeouts = Rounds(keeper, "timeouts", lambda term: Timeouts(keeper, term, clock))
 
     async def run(self) -> None:
         """Goes by the policies, for ever."""
         if self._keeper.is_versioned:
-            await asyncio.gather(self.restarts.run())
+            await asyncio.gather(self.restarts.run(), self.timeouts.run())

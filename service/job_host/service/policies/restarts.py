@@ -18,7 +18,7 @@ from job_host.service.history.open_index import FEW
 from job_host.service.keepers.keeper import Keeper
 from job_host.service.keepers.open_items import cause_queries, causes_in
 from job_host.service.pages import Page
-from job_host.service.policies.known import RESTARTER, policies_of, session_of
+from job_host.service.policies.known import RESTARTER, session_of
 from job_host.service.problems import Problem
 from job_host.service.retention.purging import LOOK, Changed
 from job_host.service.terms import moments
@@ -95,7 +95,7 @@ class Restarts:
         """The moment at which a job execution is restarted. A purged one has no row, and one that somebody stopped stays."""
         if told is None or told["status"] not in STATUSES:
             return None
-        policy = policies_of(self._keeper, told["job"]).restart
+        policy = self._keeper.policies(told["job"]).restart
         if policy is None or self._is_stopped(told["execution"]) or not self._is_covered(policy, told, steps):
             return None
         made = self._made(told["instance"], session)

@@ -11,7 +11,7 @@ from job_host.protocol.moments import moment
 from job_host.service.history.actions import Action
 from job_host.service.history.open_index import RESTARTABLE, Long, Running
 from job_host.service.http.requests import PAGE_WORDS, Asked, Route
-from job_host.service.keepers.keeper import HeldBy
+from job_host.service.keepers.late import LateBy
 from job_host.service.keepers.open_items import Caused, Open, OpenWanted, ToRestart, causes_for, open_items
 from job_host.service.routes import views
 from job_host.service.routes.lists import statuses_of
@@ -31,7 +31,7 @@ def shown(found: Open, wanted: OpenWanted, restart_times: Mapping[int, int]) -> 
     return {
         "jobInstances": [to_restart(one, restart_times) for one in found.to_restart],
         "long": [long(one) for one in found.long],
-        "late": None if found.late is None else [late(by, of) for by, of in found.late],
+        "late": None if found.late is None else [late(one) for one in found.late],
         "waiting": None if found.waiting is None else [views.job_execution_row(one) for one in found.waiting],
         "counts": found.counts,
         "more": found.has_more(wanted),
@@ -80,17 +80,20 @@ def version(one: Running) -> dict[str, int]:
     return {"version": one.version} if one.version > 1 else {}
 
 
-def late(by: HeldBy, of: Running | None) -> dict[str, Any]:
+def late(one: LateBy) -> dict[str, Any]:
+    of, by = one.late.running, one.by
+    left = None if by is None or by.remaining is None else round(by.remaining, 1)
     return {
         "jobName": None if of is None else of.job,
         **({} if of is None else version(of)),
-        "executionId": by.held.execution,
-        "work": by.held.work,
-        "stepName": by.held.element,
-        "partition": by.held.partition,
-        "client": by.client,
-        "since": moment(by.held.since),
-        "leaseRemaining": None if by.remaining is None else round(by.remaining, 1),
+        "executionId": by.held.execution if by is not None else of.execution if of is not None else None,
+        "work": None if by is None else by.held.work,
+        "stepName": None if by is None else by.held.element,
+        "partition": None if by is None else by.held.partition,
+        "client": None if by is None else by.client,
+        "since": moment(by.held.since if by is not None else of.start if of is not None else None),
+        "leaseRemaining": left,
+        "timeout": one.late.timeout,
     }
 
 
