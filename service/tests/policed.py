@@ -50,7 +50,7 @@ def with_policies(folder: Path, settings: Any, job: str = "nightly", file: str |
 async def policing(settings: ServeSettings, clock: Callable[[], int], role: str = "leader") -> AsyncIterator[Instance]:
     """A service whose policies go by this clock. Operations have the machine's."""
     instance = Instance(settings)
-    instance.service.policies = Policies(instance.service.keeper, clock)
+    instance.service.policies = Policies(instance.service.keeper, settings, instance.service.receiver, clock)
     await instance.start()
     try:
         await instance.until_role(role)

@@ -105,7 +105,7 @@ async def test_what_doesnt_end_is_late(embedded: Make, tmp_path: Path, say: Say,
         clock.seconds = 3_900
         (row,) = await late_rows(caller)
         shown = {name: row[name] for name in ("jobName", "executionId", "work", "stepName", "client", "timeout")}
-        expected = {"jobName": "nightly", "executionId": 1, "work": 1, "stepName": "only", "client": "tester"}
+        expected: dict[str, Any] = {"jobName": "nightly", "executionId": 1, "work": 1, "stepName": "only", "client": "tester"}
         assert shown == {**expected, "timeout": 3_600} and row["leaseRemaining"] is not None
         assert (await caller.ask("GET", "/batch/open?jobName=other")).told["late"] == []
         assert "jobhost_late_work_items 1.0\n" in (await caller.ask("GET", "/metrics")).told

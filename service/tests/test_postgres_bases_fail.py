@@ -315,15 +315,19 @@ async def test_tables_that_are_emptied_have_no_base_any_more(basing: Make) -> No
         assert (await compact(instance)).failure == "" and await bases_in(made) == [(3, 1)]
 
 
-async def test_a_store_of_the_version_before_is_brought_to_this_one_and_compacted(basing: Make) -> None:
+@pytest.mark.parametrize("version", [2, 3])
+async def test_a_store_of_a_version_before_is_brought_to_this_one_and_compacted(basing: Make, version: int) -> None:
     made = basing()
     async with running(made) as instance:
         history = await fill(instance)
     async with table_of(made) as table:
-        await table.execute("drop table job_host_base, job_host_base_part, job_host_action")
-        await table.execute("update job_host_version set version = 2")
+        await table.execute("drop table job_host_mark, job_host_notification")
+        if version == 2:
+            await table.execute("drop table job_host_base, job_host_base_part, job_host_action")
+        await table.execute("update job_host_version set version = $1", version)
     async with running(made) as instance:
-        assert await version_of(made.postgres[0]) == THIS_VERSION == 3
+        assert await version_of(made.postgres[0]) == THIS_VERSION == 4
+        assert await instance.service.keeper.notes().marks() == {}
         await check_filled(instance, history)
         assert (await compact(instance)).failure == "" and await bases_in(made) == [(4, 1)]
     async with running(made) as instance:

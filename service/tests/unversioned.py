@@ -62,7 +62,7 @@ async def make_unversioned_tables(dsn: str) -> None:
     """Puts the rows of the tables into such as they were without a version."""
     table = await asyncpg.connect(dsn)
     await table.execute("create schema now")
-    for name in (*POSTGRES_NAMES, "version", "job_change", "base", "base_part", "action"):
+    for name in (*POSTGRES_NAMES, "version", "job_change", "base", "base_part", "action", "mark", "notification"):
         await table.execute(f"alter table job_host_{name} set schema now")
     await table.execute(POSTGRES_TABLES)
     for name in POSTGRES_NAMES:

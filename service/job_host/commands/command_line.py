@@ -34,6 +34,7 @@ def add_serve(subcommands: Subcommands[argparse.ArgumentParser]) -> None:
     add_listening(parser)
     add_retention(parser)
     add_compaction(parser)
+    add_notifications(parser)
     lease = "a work item is lost after so long without a sign of its worker (default: %(default)g)"
     add("--lease", type=float, default=30.0, metavar="SECONDS", help=lease)
     takeover = "over PostgreSQL, this instance takes over after so long without a sign of the leader (default: %(default)g)"
@@ -61,6 +62,18 @@ def add_compaction(parser: argparse.ArgumentParser) -> None:
     parser.add_argument("--compact-at", type=time_of_day, metavar="HH:MM", help=at)
     forget = "goes on though request keys from before a compaction are lost: calls that are made again by them are made twice"
     parser.add_argument("--forget-keys", action="store_true", help=f"{forget} (default: the service names the files, and ends)")
+
+
+def add_notifications(parser: argparse.ArgumentParser) -> None:
+    """Who is told of what failed, is late or was lost."""
+    notify = (
+        "a URL that is told by POST of what failed, is late or was lost, and of a history that is almost full (default: none)"
+    )
+    parser.add_argument("--notify", default="", metavar="URL", help=notify)
+    secret = "the file of the secret that signs what is told; --notify needs it (default: none)"
+    parser.add_argument("--notify-secret", type=Path, metavar="FILE", help=secret)
+    private = "lets the name in --notify have private addresses (default: only an address there, or localhost, may be private)"
+    parser.add_argument("--notify-private", action="store_true", help=private)
 
 
 def add_jobs(parser: argparse.ArgumentParser) -> None:
@@ -146,6 +159,9 @@ def serve_settings(given: argparse.Namespace) -> ServeSettings:
         archive=given.archive,
         compact_at=given.compact_at,
         forget_keys=given.forget_keys,
+        notify=given.notify,
+        notify_secret=given.notify_secret,
+        notify_private=given.notify_private,
     )
 
 

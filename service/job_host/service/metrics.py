@@ -14,6 +14,7 @@ from job_host.service.history.open_index import RESTARTABLE, WAITING
 from job_host.service.keepers.keeper import Keeper
 from job_host.service.keepers.open_items import OpenWanted, open_items
 from job_host.service.pages import Page
+from job_host.service.policies.delivery import Counts
 from job_host.service.problems import Problem
 from job_host.service.retention.rounds import Retention
 from job_host.service.settings import HistoryBounds
@@ -51,6 +52,9 @@ class Metrics:
         self.archived = Counter("jobhost_archived_job_instances", "Job instances that this instance archived", **given)
         self.round = Gauge("jobhost_retention_round_seconds", "Seconds of the last round of retention", **given)
         self.left = Gauge("jobhost_retention_left", "Job instances that the last round has left to purge", **given)
+        self.notified = Gauge("jobhost_notifications_waiting", "Notifications that wait for their receiver", **given)
+        self.taken = Counter("jobhost_notifications_taken", "Notifications that were taken", **given)
+        self.not_taken = Counter("jobhost_notifications_failed", "Attempts of notifications that failed", **given)
         self.base_rows = Gauge("jobhost_log_base_rows", "Rows in the base of the log", **given)
         self.behind = Gauge("jobhost_log_operations_behind_base", "Operations behind the base of the log", **given)
         self.compacting = Gauge("jobhost_compaction_seconds", "Seconds of the last compaction", **given)
@@ -70,6 +74,13 @@ class Metrics:
         self.archived.inc(retention.take_archived())
         self.round.set(retention.last.seconds)
         self.left.set(retention.last.left)
+
+    def set_notifications(self, counts: Counts) -> None:
+        """What this instance sent since this was last asked, and what waits."""
+        self.notified.set(counts.waiting)
+        self.taken.inc(counts.taken)
+        self.not_taken.inc(counts.failed)
+        counts.taken = counts.failed = 0
 
     def set_compaction(self, keeper: Keeper) -> None:
         """How the log stands, and what became of its last compaction."""

@@ -28,6 +28,7 @@ from job_host.service.keepers.embedded import EmbeddedKeeper
 from job_host.service.keepers.keeper import Fatal, Keeper
 from job_host.service.metrics import Metrics
 from job_host.service.policies.leading import Policies
+from job_host.service.policies.receiver import Receiver
 from job_host.service.problems import Problem, unavailable
 from job_host.service.retention.purging import Purging
 from job_host.service.retention.rounds import Retention
@@ -106,7 +107,8 @@ class Service:
         archive = begun_archive(settings)
         self.purging = Purging(self.keeper, archive)
         self.retention = Retention(self.keeper, settings, self.purging)
-        self.policies = Policies(self.keeper)
+        self.receiver = Receiver(settings) if settings.notify else None
+        self.policies = Policies(self.keeper, settings, self.receiver)
         gate = Gate(settings.bounds)
         self.host = Host(settings, self.keeper, self.access, gate, waits, self.ending, self.purging.purge, archive)
         self.port = settings.port
@@ -224,6 +226,7 @@ class Service:
 
     async def _show_metrics(self, asked: Asked) -> web.StreamResponse:
         self.metrics.set_retention(self.retention)
+        self.metrics.set_notifications(self.policies.counts)
         text = await self.metrics.text(self.keeper)
         return web.Response(body=text, headers={"Content-Type": CONTENT_TYPE_LATEST})
 
@@ -283,8 +286,12 @@ class Service:
             await self._runner.cleanup()
 
     def read_again(self) -> None:
-        """Reads the tokens and the certificate again. What can't be read leaves in use what was read before."""
-        files: list[tuple[str, Access | Certificate | None]] = [("tokens", self.access), ("certificate", self.certificate)]
+        """Reads the tokens, the certificate and the secret again. What can't be read leaves in use what was read before."""
+        files: list[tuple[str, Access | Certificate | Receiver | None]] = [
+            ("tokens", self.access),
+            ("certificate", self.certificate),
+            ("the secret of notifications", self.receiver),
+        ]
         for name, file in files:
             try:
                 if file is not None:
@@ -324,6 +331,8 @@ class Service:
             for task in beside:
                 task.cancel()
             await asyncio.wait(beside)
+            if self.receiver is not None:
+                await self.receiver.close()
 
     async def run(self) -> None:
         """Serves until SIGTERM or SIGINT. Raises Fatal if the keeper can't go on."""

@@ -80,6 +80,10 @@ class ServeSettings:
     archive: Path | None = None
     # The time of each day at which the history is compacted. Without one it is compacted by itself alone.
     compact_at: time | None = None
+    # The URL of whoever is told of events, the file of the secret that signs, and whether its name may have private addresses.
+    notify: str = ""
+    notify_secret: Path | None = None
+    notify_private: bool = False
     # Goes on though the file beside the log doesn't know what is before the log's base.
     forget_keys: bool = False
     bounds: Bounds = field(default_factory=Bounds)

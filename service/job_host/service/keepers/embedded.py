@@ -26,6 +26,7 @@ from job_host.service.keepers.beside_base import BesideBase
 from job_host.service.keepers.compacting import Compacting, rest_of
 from job_host.service.keepers.due import Due
 from job_host.service.keepers.embedded_term import Beside, EmbeddedTerm
+from job_host.service.keepers.embedded_notes import EmbeddedNotes
 from job_host.service.keepers.exchange import END_SECONDS, exchange
 from job_host.service.keepers.keeper import Compaction, Fatal, Keeper, check_catalogue, first_of, needed
 from job_host.service.keepers.noting import Noting
@@ -33,6 +34,7 @@ from job_host.service.keepers.replayed_log import ReplayedLog
 from job_host.service.problems import Problem, unavailable
 from job_host.service.settings import ServeSettings
 from job_host.service.stores.beside_files import STORE_NAME
+from job_host.service.stores.notifications import PolicyNotes
 from job_host.service.stores.private_folder import make_private
 from job_host.service.stores.sqlite import SqliteStore, refuse_later_file
 from job_host.service.stores.versions import LaterVersion
@@ -384,6 +386,10 @@ class EmbeddedKeeper(Keeper):
         if self._beside is None:
             raise unavailable("Starting", "the history isn't here yet")
         return await self._beside.do(read)
+
+    def notes(self) -> PolicyNotes:
+        self.leading()
+        return EmbeddedNotes(self._read)
 
     async def client_names(self, sessions: Sequence[int]) -> dict[int, str]:
         names = {one: self._sessions.name(one) for one in sessions}

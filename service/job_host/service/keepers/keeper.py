@@ -21,6 +21,7 @@ from job_host.service.history.engine import Engine
 from job_host.service.history.work_items import Ended, Held
 from job_host.service.pages import Page
 from job_host.service.problems import Problem, of_refusal, unavailable
+from job_host.service.stores.notifications import PolicyNotes
 from job_host.service.terms.calls import SERVICE, SERVICE_SESSION, Call, Kept, LogPage, LogSize, WorkLog
 from job_host.service.terms.leases import Leases
 from job_host.service.terms.sessions import Silent
@@ -133,6 +134,10 @@ class Keeper(ABC):
     @abstractmethod
     async def client_names(self, sessions: Sequence[int]) -> dict[int, str]:
         """The names of these sessions, as far as they are known here."""
+
+    @abstractmethod
+    def notes(self) -> PolicyNotes:
+        """What the leader remembers of its policies. Raises a problem if this instance doesn't lead."""
 
     @property
     def is_versioned(self) -> bool:

@@ -25,13 +25,15 @@ from job_host.service.keepers.keeper import Compaction, Fatal, Keeper, check_cat
 from job_host.service.keepers.local_logs import CatalogueGrew, LocalLogs
 from job_host.service.keepers.postgres_compacting import PostgresCompacting
 from job_host.service.keepers.postgres_following import check_gap, knows_table, look_at_base
-from job_host.service.keepers.postgres_term import PostgresTerm, beating
+from job_host.service.keepers.postgres_term import PostgresTerm, beating, leading_epoch
 from job_host.service.problems import Problem, unavailable
 from job_host.service.settings import ServeSettings
 from job_host.service.stores.local_files import LocalFiles
+from job_host.service.stores.notifications import PolicyNotes
 from job_host.service.stores.postgres import Leader, PostgresStore
 from job_host.service.stores.postgres_bases import BaseDamaged, BaseGone, OperationsMissing
 from job_host.service.stores.postgres_connection import LOST, NoPrimary, NotDurable
+from job_host.service.stores.postgres_notifications import PostgresNotes
 from job_host.service.stores.versions import LaterVersion
 from job_host.service.terms.calls import LogPage, LogSize, WorkLog
 from job_host.service.terms.leases import Leases
@@ -381,6 +383,9 @@ class PostgresKeeper(Keeper):
             return await read(self._store)
         except LOST as fault:
             raise unavailable("StoreLost", f"{type(fault).__name__}: {fault}") from fault
+
+    def notes(self) -> PolicyNotes:
+        return PostgresNotes(lambda use: self._read(lambda store: store.use(use)), leading_epoch(self.leading()))
 
     async def client_names(self, sessions: Sequence[int]) -> dict[int, str]:
         names = {one: name for one in sessions if (name := self._sessions.name(one)) is not None}

@@ -86,6 +86,12 @@ class PostgresTerm(Term):
         self.grown.set()
 
 
+def leading_epoch(term: Term) -> int:
+    """The epoch by which an instance leads now."""
+    assert isinstance(term, PostgresTerm)
+    return term.epoch
+
+
 @asynccontextmanager
 async def beating(store: PostgresStore, epoch: int, seconds: float) -> AsyncIterator[None]:
     """Gives signs of this leader while it isn't ready yet. Raises NotLeader at the end if another one has taken over."""

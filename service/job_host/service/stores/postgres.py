@@ -4,7 +4,7 @@ from __future__ import annotations
 
 import asyncio
 import json
-from collections.abc import AsyncIterator, Coroutine, Mapping, Sequence
+from collections.abc import AsyncIterator, Callable, Coroutine, Mapping, Sequence
 from contextlib import asynccontextmanager
 from dataclasses import dataclass, field
 from typing import Any
@@ -125,6 +125,11 @@ class PostgresStore:
     async def _fetch(self, statement: str, *arguments: Any) -> list[Any]:
         async with self._reading() as reads:
             return list(await reads.fetch(statement, *arguments))
+
+    async def use(self, use: Callable[[asyncpg.Connection], Any]) -> Any:
+        """Lends the connection that reads, for one statement."""
+        async with self._reading() as reads:
+            return await use(reads)
 
     async def leader(self) -> Leader:
         return Leader(*(await self._fetch(LEADER))[0])

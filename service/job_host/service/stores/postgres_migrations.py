@@ -6,6 +6,7 @@ from collections.abc import Awaitable, Callable
 
 import asyncpg
 
+from job_host.service.stores.postgres_notifications import ADD_NOTIFICATIONS
 from job_host.service.stores.postgres_schema import (
     ADD_BASES,
     ADD_HISTORY,
@@ -39,8 +40,12 @@ async def add_bases(connection: asyncpg.Connection) -> None:
     await connection.execute(ADD_BASES)
 
 
+async def add_notifications(connection: asyncpg.Connection) -> None:
+    await connection.execute(ADD_NOTIFICATIONS)
+
+
 # What brings each version to the next one. They are never changed: a later version has one of its own.
-MIGRATIONS: list[Migration] = [make_tables, add_job_changes, add_bases]
+MIGRATIONS: list[Migration] = [make_tables, add_job_changes, add_bases, add_notifications]
 
 
 async def version_of(connection: asyncpg.Connection) -> int:

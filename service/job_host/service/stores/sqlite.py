@@ -21,6 +21,7 @@ from typing import Any
 from job_host.service.history.actions import Action
 from job_host.service.history.log_file import Beginning, KnownBase
 from job_host.service.stores.history import History, Rest, history_in
+from job_host.service.stores.sqlite_notifications import NotificationTable
 from job_host.service.stores.sqlite_schema import migrate, refuse_later
 from job_host.service.terms.calls import (
     EVERYBODY_SESSION,
@@ -152,6 +153,7 @@ class SqliteStore:
             self._connection.execute(f"pragma {pragma}")
         self._check()
         migrate(self._connection)
+        self.notifications = NotificationTable(self._connection)
 
     def _check(self) -> None:
         """Raises a DatabaseError if the file is damaged."""

@@ -91,8 +91,23 @@ create table if not exists action (
 """,
     "create index if not exists action_operation on action (operation)",
 )
+# What the leader remembers of its policies: moments by name, and notifications that wait for their receiver.
+FOURTH = (
+    "create table if not exists mark (name text primary key, value integer not null) without rowid",
+    """
+create table if not exists notification (
+    number integer primary key autoincrement,
+    id text not null unique,
+    execution integer not null,
+    body text not null,
+    attempts integer not null default 0,
+    due integer not null default 0
+)
+""",
+    "create index if not exists notification_execution on notification (execution, number)",
+)
 # The statements that bring each version to the next one. They are never changed: a later version has statements of its own.
-MIGRATIONS: list[Iterable[str]] = [FIRST, SECOND, THIRD]
+MIGRATIONS: list[Iterable[str]] = [FIRST, SECOND, THIRD, FOURTH]
 
 
 def version_of(connection: sqlite3.Connection) -> int:
