@@ -8,8 +8,12 @@ from pathlib import Path
 
 import pytest
 
-from job_host.catalogue.folder import read_folder
+from job_host.catalogue.cron import read_cron
+from job_host.catalogue.folder import read_folder, settings_beside
+from job_host.catalogue.jobs import JobFile
 from job_host.catalogue.policies import JobPolicies, JobTimeout, RestartPolicy
+from job_host.catalogue.schedules import Schedule
+from job_host.catalogue.versions import read_for_workers
 from job_host.commands.command_line import main
 
 JSL = """<job id="a" xmlns="https://jakarta.ee/xml/ns/jakartaee" version="2.0">
@@ -46,8 +50,9 @@ def test_each_step_has_its_time(jobs: Path) -> None:
 
 IN_JOB, IN_LOAD = 'settings in job "a"', 'settings in job "a", step "load" (number 0)'
 SECONDS = 'expected a whole number of seconds from 1 to 4294967295, or a duration as `PT90S`, as "timeout"'
+ZONE = 'a time zone of this machine, as `Europe/Berlin`, as "zone"'
 CAUSE = '"afterLostWorker": true, or "exitStatuses", in restart'
-MEMBERS = '"steps", "timeout", "grace" or "restart"'
+MEMBERS = '"steps", "timeout", "grace", "restart" or "schedule"'
 FAULTS = [
     ("", "1:1: NotJson: expected a value, found the end of the file"),
     (b'{"\xff": 1}', "1:3: NotJson: expected UTF-8, found the byte 0xff"),
@@ -92,6 +97,35 @@ FAULTS = [
         f'1:14: {IN_JOB}: expected "afterLostWorker", "exitStatuses", "most", "wait" or "longestWait" in restart, '
         'found "afterLostworker"; did you mean `afterLostWorker`?',
     ),
+    ('{"schedule": []}', f"1:14: {IN_JOB}: expected an object, schedule, found `[]`"),
+    ('{"schedule": {}}', f'1:14: {IN_JOB}: expected "cron" in schedule, found `{{}}`'),
+    ('{"schedule": {"cron": 5}}', f'1:23: {IN_JOB}: expected a text of five fields as "cron", found `5`'),
+    (
+        '{"schedule": {"cron": "60 * * * *"}}',
+        f'1:23: {IN_JOB}: expected a minute from 0 to 59, as "cron", found `"60 * * * *"`',
+    ),
+    *(
+        (
+            '{"schedule": {"cron": "0 1 * * *", %s}}' % more,
+            f"1:{at}: {IN_JOB}: expected {told}",
+        )
+        for more, at, told in (
+            ('"zone": "Mars/Base"', 44, f'{ZONE}, found `"Mars/Base"`'),
+            ('"zone": "../x"', 44, f'{ZONE}, found `"../x"`'),
+            ('"zone": ""', 44, f'{ZONE}, found `""`'),
+            ('"zone": 1', 44, f"{ZONE}, found `1`"),
+            ('"missed": "run"', 46, '"catchUp" or "skip" as "missed", found `"run"`'),
+            ('"parameters": []', 50, "an object of texts, parameters, found `[]`"),
+            ('"parameters": {"a": 1}', 56, 'a text of at most 4096 bytes as "a", found `1`'),
+            ('"dateParameter": ""', 53, 'a text of 1 to 256 bytes as "dateParameter", found `""`'),
+            ('"parameters": {"d": ""}, "dateParameter": "d"', 78, 'a parameter that parameters hasn\'t, found `"d"`'),
+            (
+                '"dateParameter": "d", "momentParameter": "d"',
+                77,
+                'another name than "dateParameter" has, found `"d"`',
+            ),
+        )
+    ),
     *(
         ('{"steps": {"load": {"timeout": %s}}}' % wrong, f"1:32: {IN_LOAD}: {SECONDS}, found `{wrong}`")
         for wrong in (
@@ -127,6 +161,20 @@ def test_policies_are_read(jobs: Path) -> None:
     usual = JobPolicies(RestartPolicy(False, ("B",), 3, 30, 3_600), JobTimeout(1, 60))
     assert read_folder(jobs, ()).for_workers["a"].policies == usual
     assert refused(jobs, "{}") == [] and read_folder(jobs, ()).for_workers["a"].policies == JobPolicies()
+    more = {"zone": "Asia/Tokyo", "missed": "catchUp", "parameters": {"a": "b"}, "dateParameter": "d", "momentParameter": "m"}
+    assert refused(jobs, json.dumps({"schedule": {"cron": " 0  1 * * * ", **more}})) == []
+    schedule = Schedule(read_cron("0 1 * * *"), "Asia/Tokyo", "catchUp", (("a", "b"),), "d", "m")
+    assert read_folder(jobs, ()).for_workers["a"].policies == JobPolicies(schedule=schedule)
+    assert refused(jobs, '{"schedule": {"cron": "0 1 * * *"}}') == []
+    usual_schedule = Schedule(read_cron("0 1 * * *"), "UTC", "skip")
+    assert read_folder(jobs, ()).for_workers["a"].policies == JobPolicies(schedule=usual_schedule)
+
+
+def test_a_schedule_that_is_at_fault_is_none(jobs: Path) -> None:
+    """A kept file is read again where a zone may be missing: nothing is started by another one then."""
+    (jobs / "a.settings.json").write_text('{"schedule": {"cron": "0 1 * * *", "zone": "Mars/Base"}}')
+    file = JobFile("a.xml", ".xml", JSL.encode(), settings_beside(jobs / "a.xml"))
+    assert read_for_workers(file, ()).policies == JobPolicies()
 
 
 def test_a_job_that_may_not_be_restarted_has_no_policy_for_that(jobs: Path) -> None:

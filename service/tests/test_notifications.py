@@ -105,9 +105,11 @@ async def test_what_came_while_nobody_looked_is_told(either: Make, tmp_path: Pat
         async with policing(plain, Ahead()) as instance:
             await failed(Caller(instance.url))
             await failed(Caller(instance.url))
-        async with policing(telling, Ahead()) as instance:
-            await receiver.until_taken(2)
-            await until_found(instance)
+        for _ in range(2):
+            async with policing(telling, Ahead()) as instance:
+                await receiver.until_taken(2)
+                await until_found(instance)
+                await until_round(instance.service.policies.sending)
         assert receiver.kinds == [("FAILED", 2), ("FAILED", 3)]
 
 

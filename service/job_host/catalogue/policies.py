@@ -5,6 +5,7 @@ from __future__ import annotations
 from dataclasses import dataclass
 
 from job_host.catalogue.patterns import matches
+from job_host.catalogue.schedules import Schedule
 
 USUAL_RESTARTS = 3
 USUAL_WAIT, USUAL_LONGEST_WAIT = 30, 3_600
@@ -45,6 +46,7 @@ class JobPolicies:
 
     restart: RestartPolicy | None = None
     timeout: JobTimeout | None = None
+    schedule: Schedule | None = None
 
 
 NO_POLICIES = JobPolicies()

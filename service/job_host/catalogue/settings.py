@@ -11,6 +11,7 @@ from job_host.catalogue.faults import NOT_JSON, NOBODY, Fault, Note, Owner
 from job_host.catalogue.jobs import Steps
 from job_host.catalogue.policies import JobPolicies
 from job_host.catalogue.policy_settings import GRACE, RESTART, TIMEOUT, read_restart, read_timeout
+from job_host.catalogue.schedule_settings import SCHEDULE, ScheduleReader
 from job_host.catalogue.settings_reader import SettingsReader
 from job_host.catalogue.text import NotJson, Reader, Source, Value, decoded
 from job_host.catalogue.tree import Job
@@ -58,11 +59,12 @@ class SettingsFinder:
             steps.setdefault(name, {})[TIMEOUT] = seconds
 
     def _read(self, root: Value) -> None:
-        told = self._reader.members(root, self._job.owner(), "the settings", (STEPS, TIMEOUT, GRACE, RESTART))
+        told = self._reader.members(root, self._job.owner(), "the settings", (STEPS, TIMEOUT, GRACE, RESTART, SCHEDULE))
         if STEPS in told:
             self._read_steps(told[STEPS])
         restart = read_restart(self._reader, told[RESTART]) if RESTART in told else None
-        self.policies = JobPolicies(restart, read_timeout(self._reader, told))
+        schedule = ScheduleReader(self._reader).read(told[SCHEDULE]) if SCHEDULE in told else None
+        self.policies = JobPolicies(restart, read_timeout(self._reader, told), schedule)
 
     def _read_steps(self, steps: Value) -> None:
         known = {element.id: element for element in self._job.elements if element.form == "step" and element.id is not None}

@@ -23,6 +23,11 @@ class SettingsReader:
         self._faults = faults
         self._name = name
 
+    @property
+    def fault_count(self) -> int:
+        """How many faults there are by now."""
+        return len(self._faults)
+
     def members(self, value: Value, owner: Owner, what: str, names: Sequence[str], expected: str = "") -> dict[str, Value]:
         """The members of an object that may be there. Others, and another value, are at fault."""
         if not isinstance(value.held, Members):

@@ -120,6 +120,10 @@ def add_lists(subcommands: Subcommands[argparse.ArgumentParser]) -> None:
     add_count(parser)
     add_utc(parser)
     add_utc(add_command(subcommands, "work", shown.show_work, "shows which worker holds which work item since when"))
+    parser = add_command(subcommands, "schedule", shown.schedule, "shows what comes next by the schedules of jobs")
+    parser.add_argument("--job", metavar="JOB", help="shows this job alone (default: all jobs)")
+    parser.add_argument("--count", type=positive, default=20, help="how many starts are shown at most (default: %(default)s)")
+    add_utc(parser)
     add_execution(add_command(subcommands, "log", jobs.show_log, "shows the logs of a job execution's work items"))
     parser = add_command(subcommands, "watch", shown.watch, "shows a job execution until its end, or the newest job instances")
     execution = "the job execution's number (default: none, and the newest job instances are shown)"

@@ -1,9 +1,10 @@
-"""The client's commands that show tables: status, list, work and watch."""
+"""The client's commands that show tables: status, list, work, schedule and watch."""
 
 from __future__ import annotations
 
 import argparse
 import asyncio
+from datetime import datetime
 from typing import Any
 from urllib.parse import urlencode
 
@@ -11,10 +12,14 @@ from rich.console import Console
 from rich.live import Live
 
 from job_host.commands.jobs import POLL, STATUS, execution_of, rows_of
-from job_host.commands.terminal import execution_table, instance_table, operation_table, work_table
+from job_host.commands.terminal import execution_table, instance_table, operation_table, schedule_table, work_table
 from job_host.protocol.batch_statuses import UNFINISHED
 from job_host.protocol.bounds import PAGE_SIZE
 from job_host.protocol.client import Client
+from job_host.protocol.moments import MOMENT
+
+# So many moments of a job are told at most.
+MOST_NEXT = 100
 
 
 async def status(client: Client, given: argparse.Namespace) -> int:
@@ -25,6 +30,16 @@ async def status(client: Client, given: argparse.Namespace) -> int:
         Console().print(execution_table(await execution_of(client, given.execution), given.utc))
     finally:
         Console().print(operation_table(operations, given.execution, given.utc))
+    return 0
+
+
+async def schedule(client: Client, given: argparse.Namespace) -> int:
+    """Shows what comes next by the schedules of jobs, the next start first."""
+    words = {"count": str(min(given.count, MOST_NEXT)), **({"jobName": given.job} if given.job else {})}
+    told = (await client.read(f"/batch/schedules?{urlencode(words)}"))["jobs"]
+    rows = [(datetime.strptime(one["time"], MOMENT), job, one) for job in told for one in job["next"]]
+    rows.sort(key=lambda row: (row[0], row[1]["jobName"]))
+    Console().print(schedule_table([(job, one) for _, job, one in rows[: given.count]], given.utc))
     return 0
 
 

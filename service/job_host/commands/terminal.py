@@ -96,6 +96,16 @@ def change_table(told: Told, in_utc: bool) -> Table:
     return table
 
 
+def schedule_table(told: Sequence[tuple[Told, Told]], in_utc: bool) -> Table:
+    """What comes next: jobs with their next moments."""
+    table = folded("at", "job", "in the zone", "schedule", "parameters")
+    for job, one in told:
+        parameters = " ".join(f"{name}={value}" for name, value in one["jobParameters"].items())
+        shown = [job_text(job), f"{one['local']} {job['zone']}", job["cron"], parameters]
+        table.add_row(clock(one["time"], in_utc), *map(plain, shown))
+    return table
+
+
 def instance_table(told: Sequence[Told], in_utc: bool) -> Table:
     """Job instances, each with its most recent job execution."""
     table = folded("job instance", "job", "job execution", "status", "exit status", "last updated")

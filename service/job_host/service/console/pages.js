@@ -273,25 +273,41 @@ function turn(data, kept, page) {
   return pager("Pages of the list", page, data.more, to, text);
 }
 
+// When a job is started by itself.
+export function scheduleSection({ cron, zone, next }) {
+  const rows = next.map(({ time, local, jobParameters }) => ({
+    key: time, cells: [when(time), told(local), told(parametersText(jobParameters))],
+  }));
+  const columns = [{ name: "Starts" }, { name: `In ${zone}` }, { name: "Parameters", kind: "wide" }];
+  return section("Schedule", element("p", {}, "By ", element("code", {}, told(cron)), ` in ${zone}.`),
+    table("The next starts of this job", columns, rows, "None."));
+}
+
+function parametersText(parameters) {
+  return Object.entries(parameters).map(([name, value]) => `${name}=${value}`).join(" ");
+}
+
 // A job: its picture, and its newest job executions.
 export const job = {
   page: "jobs",
   async load({ name }) {
     const asked = pageNow();
-    const [shape, list] = await Promise.all([
+    const [shape, list, { jobs: schedules }] = await Promise.all([
       newestShapeOf(name), read("/batch/jobexecutions", { jobName: name, pageSize: NEWEST * 2, details: true }),
+      read("/batch/schedules", { jobName: name }),
     ]);
     await ready(asked, shape, new Map());
-    return { shape, list };
+    return { shape, list, schedules };
   },
   title: ({ name }) => `Job ${name}`,
   isLive: ({ list }) => list.jobExecutions.some((row) => UNFINISHED.includes(row.batchStatus)),
-  draw({ shape, list }, { name }, may) {
+  draw({ shape, list, schedules }, { name }, may) {
     const caption = "Job executions of this job, the newest first";
     const all = `#/executions?${new URLSearchParams({ jobName: name })}`;
     return [
       heading("Job ", told(name)),
       element("p", { class: "actions" }, may("operate") ? button("start", "Start", { job: name }, "main") : null),
+      schedules.map(scheduleSection),
       section("Picture", pictured(shape, new Map())),
       section("Newest job executions", executionsTable(caption, list.jobExecutions, "It was never started."),
         list.more ? element("p", {}, link(all, "All job executions of this job")) : null),

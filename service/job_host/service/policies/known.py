@@ -5,7 +5,7 @@ from __future__ import annotations
 from job_host.service.terms.term import Term
 
 # No client can have such a name: those of clients begin with a letter or a digit.
-RESTARTER, TIMER = "(restart-policy)", "(timeout)"
+RESTARTER, TIMER, SCHEDULER = "(restart-policy)", "(timeout)", "(schedule)"
 
 
 async def session_of(term: Term, client: str) -> int | None:

@@ -11,6 +11,7 @@ from job_host.service.policies.notifications import Finder
 from job_host.service.policies.receiver import NotTaken
 from job_host.service.policies.restarts import Restarts
 from job_host.service.policies.rounds import Rounds
+from job_host.service.policies.schedules import Schedules
 from job_host.service.policies.timeouts import Timeouts
 from job_host.service.settings import ServeSettings
 from job_host.service.terms import moments
@@ -38,12 +39,13 @@ class Policies:
         self.counts = Counts()
         self.restarts = Rounds(keeper, "restart policy", lambda term: Restarts(keeper, term, clock))
         self.timeouts = Rounds(keeper, "timeouts", lambda term: Timeouts(keeper, term, clock))
+        self.schedules = Rounds(keeper, "schedules", lambda term: Schedules(keeper, term, clock))
         self.finding = Rounds(keeper, "notifications", lambda term: Finder(keeper, term, settings.history, clock))
         sending: Sending = receiver or Nobody()
         self.sending = Rounds(keeper, "notifications", lambda term: Delivery(keeper, sending, self.counts, clock))
 
     async def run(self) -> None:
         """Goes by the policies, for ever."""
-        rounds = [self.restarts, self.timeouts] if self._keeper.is_versioned else []
+        rounds = [self.restarts, self.timeouts, self.schedules] if self._keeper.is_versioned else []
         rounds += [self.finding, self.sending] if self._is_told else []
         await asyncio.gather(*(one.run() for one in rounds))
