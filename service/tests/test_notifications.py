@@ -147,6 +147,34 @@ async def test_what_finds_no_room_stays_in_the_history(embedded: Make, tmp_path:
         assert receiver.kinds == [("FAILED", 1), ("FAILED", 2), ("FAILED", 3)]
 
 
+async def test_no_more_wait_than_a_bound(embedded: Make, tmp_path: Path, monkeypatch: pytest.MonkeyPatch) -> None:
+    """Also if much has come before anybody looked: it comes in the order of the history, each once."""
+    monkeypatch.setattr(notifications, "MOST_WAITING", 2)
+    monkeypatch.setattr(notifications, "BLOCK", 2)
+    async with receiving() as receiver:
+        receiver.status = 503
+        plain = embedded(catalogue=with_policies(tmp_path / "jobs", {}), is_folder=True)
+        telling = embedded(catalogue=tmp_path / "jobs", is_folder=True, **words(tmp_path, receiver))
+        async with policing(telling, Ahead()) as instance:
+            await until_found(instance)
+        async with policing(plain, Ahead()) as instance:
+            caller = Caller(instance.url)
+            for _ in range(5):
+                assert (await caller.start("nightly")).status == 201
+            works = [(await caller.claim()).told["work"]["work"] for _ in range(5)]
+            for work in reversed(works):
+                assert (await caller.finish(work, "FAILED")).status == 200
+        async with policing(telling, Ahead()) as instance:
+            await until_found(instance)
+            await until_found(instance)
+            assert await instance.service.keeper.notes().count() == 2
+            receiver.status = 200
+            await receiver.until_taken(5)
+            await until_found(instance)
+            await until_waiting(instance, 0)
+        assert receiver.kinds == [("FAILED", number) for number in (5, 4, 3, 2, 1)]
+
+
 async def test_a_receiver_that_hangs_holds_up_nobody(embedded: Make, tmp_path: Path) -> None:
     class Hanging:
         begun = 0

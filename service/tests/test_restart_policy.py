@@ -2,7 +2,7 @@
 
 from __future__ import annotations
 
-from collections.abc import Callable
+from collections.abc import Callable, Sequence
 from pathlib import Path
 
 import pytest
@@ -17,7 +17,8 @@ from job_host.protocol.moments import moment
 from job_host.service.policies.known import RESTARTER
 from job_host.service.policies.restarts import Plan, Restarts
 from job_host.service.settings import HistoryBounds, ServeSettings
-from job_host.service.terms.calls import Call
+from job_host.service.stores.postgres import PostgresStore
+from job_host.service.terms.calls import Call, Item
 
 Make = Callable[..., ServeSettings]
 TEMPORARY = {"restart": {"exitStatuses": ["TEMP*"], "most": 2, "wait": "PT30S", "longestWait": "PT50S"}}
@@ -197,6 +198,36 @@ async def test_two_leaders_make_one_restart(settings: Make, tmp_path: Path) -> N
         print_of = fingerprint("restart", 1)
         call = Call(RESTARTER, "restart", {"execution": 1}, "restart-1", print_of)
         assert (await second.service.keeper.submit(call)).told()["execution"] == 2
+
+
+async def test_a_commit_whose_answer_is_lost_makes_one_restart(
+    settings: Make, tmp_path: Path, monkeypatch: pytest.MonkeyPatch
+) -> None:
+    """The restart is in the table, and its leader doesn't know. It begins again, and so does the next one."""
+    made, lost = settings(catalogue=with_policies(tmp_path / "jobs", TEMPORARY), is_folder=True), list[int]()
+    commit = PostgresStore.commit
+
+    async def lose_answer(store: PostgresStore, epoch: int, items: Sequence[Item], clients: dict[str, int]) -> bool:
+        stands = await commit(store, epoch, items, clients)
+        if not lost and any(item.call is not None and item.call.client == RESTARTER for item in items):
+            lost.append(epoch)
+            raise ConnectionResetError("the answer is lost")
+        return stands
+
+    monkeypatch.setattr(PostgresStore, "commit", lose_answer)
+    for _ in range(2):
+        async with policing(made, Ahead(60)) as instance:
+            caller = Caller(instance.url)
+            if not lost:
+                await failed(caller, "TEMPORARY")
+
+            async def is_restarted() -> bool:
+                return bool(lost) and instance.service.keeper.role == "leader"
+
+            await until(is_restarted, longest=SHORT_PAUSE)
+            await until_restarts(instance)
+            assert await executions_of(caller) == [1, 2]
+            assert await done_to(caller, 2) == [("restart", RESTARTER)]
 
 
 async def test_what_is_due_is_found_after_a_start(either: Make, tmp_path: Path) -> None:

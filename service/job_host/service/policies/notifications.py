@@ -46,6 +46,8 @@ class Finder:
         self._clock = clock
         self._say = seldom(log.warning)
         self._marks: dict[str, int] | None = None
+        # Whether more was found than there was room for.
+        self._is_cut = False
         # Of these it was told that they are late. It isn't kept: a new leader tells of them again, by the same ids.
         self._late: set[tuple[int | None, int | None]] = set()
 
@@ -53,10 +55,11 @@ class Finder:
         """Keeps notifications of what has come since the last round, if there is room."""
         notes = self._keeper.notes()
         marks = await self._known_marks(notes)
-        if await notes.count() >= MOST_WAITING:
-            self._say(f"{MOST_WAITING} notifications wait: others are made as soon as there is room")
+        room = MOST_WAITING - await notes.count()
+        if room <= (MOST_WAITING // 2 if self._is_cut else 0):
+            self._say(f"{MOST_WAITING - room} notifications wait: others are made as soon as there is room")
             return
-        await self._keep_history(notes, marks)
+        await self._keep_history(notes, marks, room)
         await self._keep_late(notes)
         await self._keep_full(notes, marks)
 
@@ -70,19 +73,22 @@ class Finder:
             self._marks = marks
         return self._marks
 
-    async def _keep_history(self, notes: PolicyNotes, marks: dict[str, int]) -> None:
+    async def _keep_history(self, notes: PolicyNotes, marks: dict[str, int], room: int) -> None:
+        """Keeps what has come, the first events as far as there is room. What was cut off is found again by the mark."""
         engine = self._term.engine
         until, last = engine.entered, engine.last_moment
         if (until, last) == (marks[OPERATIONS], marks[MOMENT]):
             return
-        found = list[Event]()
+        found, self._is_cut = list[Event](), False
         # An older copy of the history may have taken its place: then all of it is looked at.
         changed = self._changed(marks[OPERATIONS] if marks[OPERATIONS] < until else 0, until)
         for begin in range(0, len(changed), BLOCK):
             found += await self._events_of(changed[begin : begin + BLOCK], marks[MOMENT], last)
+            if len(found) > room:
+                found, self._is_cut = first_of(found, room), True
             await asyncio.sleep(0)
         await self._term.until_committed(until)
-        new = {MOMENT: last, OPERATIONS: until}
+        new = {MOMENT: found[-1].moment} if self._is_cut else {MOMENT: last, OPERATIONS: until}
         await notes.add([one.notification(self._keeper.history) for one in sorted(found, key=moment_of)], new)
         marks |= new
 
@@ -154,6 +160,13 @@ class Finder:
 
 def moment_of(event: Event) -> int:
     return event.moment
+
+
+def first_of(events: Sequence[Event], count: int) -> list[Event]:
+    """The first so many events by their moments, and those that have the last one's moment, too."""
+    by_moment = sorted(events, key=moment_of)
+    bound = by_moment[count - 1].moment
+    return [one for one in by_moment if one.moment <= bound]
 
 
 def key_of(late: Late) -> tuple[int | None, int | None]:
