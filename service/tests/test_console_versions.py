@@ -3,6 +3,7 @@
 from __future__ import annotations
 
 import asyncio
+import json
 from collections.abc import Callable, Iterator
 from pathlib import Path
 
@@ -10,7 +11,7 @@ import pytest
 from browser import Browser
 from consoles import ask, browser_made, no_complaints, states
 from instances import Caller, Process
-from job_versions import JSL, job_file, write_jobs
+from job_versions import JSL, applied, job_file, write_jobs
 
 from job_host.commands.program import find_batchctl
 
@@ -62,6 +63,19 @@ def test_versions_are_shown_beside_names(browser: Browser, service: Process) -> 
     browser.until(lambda: len(browser.all(".picture [data-element]")) == 2)
     asyncio.run(caller.apply("nightly", job_file("third")))
     browser.until(lambda: len(browser.all(".picture [data-element]")) == 1)
+
+
+def test_the_page_of_a_job_shows_its_next_starts(browser: Browser, service: Process) -> None:
+    """And that of a job without a schedule shows none."""
+    settings = {"schedule": {"cron": "30 12 * * *", "zone": "Asia/Tokyo", "parameters": {"region": "<b>north"}}}
+    asyncio.run(applied(Caller(service.url), TWO, json.dumps(settings)))
+    browser.open(f"{service.url}/#/job/nightly")
+    browser.see("By 30 12 * * * in Asia/Tokyo.", "section[data-key=Schedule]")
+    rows = browser.texts("section[data-key=Schedule] tbody tr")
+    assert len(rows) == 5 and all("T12:30:00+09:00" in row and "region=<b>north" in row for row in rows)
+    browser.open(f"{service.url}/#/job/other")
+    browser.see("Job other", "h1")
+    assert not browser.all("section[data-key=Schedule]")
 
 
 def same_boxes(browser: Browser, boxes: set[str]) -> Callable[[], bool]:

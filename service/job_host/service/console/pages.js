@@ -307,7 +307,7 @@ export const job = {
     return [
       heading("Job ", told(name)),
       element("p", { class: "actions" }, may("operate") ? button("start", "Start", { job: name }, "main") : null),
-      schedules.map(scheduleSection),
+      ...schedules.map((one) => scheduleSection(one)),
       section("Picture", pictured(shape, new Map())),
       section("Newest job executions", executionsTable(caption, list.jobExecutions, "It was never started."),
         list.more ? element("p", {}, link(all, "All job executions of this job")) : null),
