@@ -6,7 +6,8 @@ import json
 from collections.abc import Callable
 from datetime import datetime, timedelta, timezone
 from pathlib import Path
-from typing import Any
+from types import SimpleNamespace
+from typing import Any, cast
 
 import pytest
 from conftest import Say
@@ -14,10 +15,18 @@ from instances import Caller, Instance
 from job_versions import read_again, withdrawn
 from policed import Ahead, done_to, hasten, policing, until_round, with_policies
 
+from job_host.catalogue.cron import read_cron
+from job_host.catalogue.jobs import ForWorkers, JobFile
+from job_host.catalogue.names import id_of
+from job_host.catalogue.policies import JobPolicies
+from job_host.catalogue.schedules import CATCH_UP, Schedule
+from job_host.service.keepers.keeper import Keeper
 from job_host.service.policies import schedules
 from job_host.service.policies.known import SCHEDULER
 from job_host.service.policies.schedules import mark_of
 from job_host.service.settings import HistoryBounds, ServeSettings
+from job_host.service.versions.book import JobBook
+from job_host.service.versions.changes import APPLY, RETURN, WITHDRAW, Change
 
 Make = Callable[..., ServeSettings]
 DAY = 86_400
@@ -188,6 +197,38 @@ async def test_what_comes_next_is_shown(either: Make, tmp_path: Path, say: Say) 
         assert status == 0 and first["jobName"] in told and other["jobName"] not in told
         assert first["next"][0]["time"][:10] in told
         assert "nightly" not in (await say(instance.url, "schedule", "--job", "tokyo"))[1]
+
+
+FIRST = JobPolicies(schedule=Schedule(read_cron("0 1 * * *"), "UTC"))
+ALIKE = JobPolicies(schedule=Schedule(read_cron("0 1 * * *"), "UTC", CATCH_UP, (("a", "b"),)))
+ZONED = JobPolicies(schedule=Schedule(read_cron("0 1 * * *"), "Asia/Tokyo"))
+
+
+@pytest.mark.parametrize(
+    ("done", "since"),
+    [
+        ([FIRST], 1),
+        ([FIRST, ALIKE], 1),
+        ([FIRST, ZONED], 2),
+        ([FIRST, JobPolicies(), FIRST], 3),
+        ([FIRST, WITHDRAW, RETURN], 3),
+        ([FIRST, WITHDRAW, ALIKE], 3),
+    ],
+)
+def test_since_when_a_schedule_is_there(done: list[Any], since: int) -> None:
+    """Through versions with the same moments. What was due before wasn't missed."""
+    known: dict[str, JobPolicies] = {}
+    book = JobBook(lambda change: change.file, lambda file: ForWorkers(policies=known[file.name]))
+    for moment, one in enumerate(done, 1):
+        version = book.newest("nightly") + (not isinstance(one, str))
+        name = id_of("nightly", version)
+        file = None if isinstance(one, str) else JobFile(name, ".xml", b"")
+        known |= {} if isinstance(one, str) else {name: one}
+        action, job = (one, None) if isinstance(one, str) else (APPLY, {"id": name, "elements": []})
+        book.enter([Change(action, "nightly", version, "", moment, job, file)])
+    keeper = cast(Keeper, SimpleNamespace(policies=lambda job: book.for_workers(job).policies))
+    schedule = keeper.policies(id_of("nightly", book.newest("nightly"))).schedule
+    assert schedule is not None and schedules.in_force_since(keeper, book, "nightly", schedule) == since
 
 
 async def test_jobs_of_a_catalogue_have_no_schedule(embedded: Make) -> None:
