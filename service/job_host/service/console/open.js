@@ -82,7 +82,7 @@ function line(kind, key, one, ...words) {
 
 function lateLine(one) {
   const of = one.work === null ? [] : [": worker ", told(one.client), ` has work item ${one.work}, `, place(one)];
-  if (one.timeout !== null) {
+  if (one.timeout) {
     return line("late", one.work ?? `execution ${one.executionId}`, one,
       ` was asked to stop after ${lasting(one.timeout)}, and hasn't ended`, ...of, ".");
   }
