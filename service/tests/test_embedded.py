@@ -129,7 +129,7 @@ async def test_a_catalogue_may_add_jobs_and_change_none(embedded: Make, tmp_path
 
 
 async def test_two_services_never_have_one_log(embedded: Make, monkeypatch: pytest.MonkeyPatch) -> None:
-    monkeypatch.setattr("job_host.service.keepers.embedded.IN_USE_SECONDS", 0.5)
+    monkeypatch.setattr("job_host.service.keepers.opened_log.IN_USE_SECONDS", 0.5)
     made = embedded()
     async with running(made):
         with pytest.raises(Fatal, match="in use"):

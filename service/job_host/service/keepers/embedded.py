@@ -8,7 +8,7 @@ from __future__ import annotations
 import asyncio
 import logging
 import sqlite3
-from collections.abc import Awaitable, Callable, Sequence
+from collections.abc import Callable, Sequence
 from concurrent.futures import ThreadPoolExecutor
 from contextlib import suppress
 from functools import partial
@@ -25,11 +25,12 @@ from job_host.service.keepers.batchctl_compact import COMPACT
 from job_host.service.keepers.beside_base import BesideBase
 from job_host.service.keepers.compacting import Compacting, rest_of
 from job_host.service.keepers.due import Due
-from job_host.service.keepers.embedded_term import Beside, EmbeddedTerm
 from job_host.service.keepers.embedded_notes import EmbeddedNotes
+from job_host.service.keepers.embedded_term import Beside, EmbeddedTerm
 from job_host.service.keepers.exchange import END_SECONDS, exchange
 from job_host.service.keepers.keeper import Compaction, Fatal, Keeper, check_catalogue, first_of, needed
 from job_host.service.keepers.noting import Noting
+from job_host.service.keepers.opened_log import Arrange, opened
 from job_host.service.keepers.replayed_log import ReplayedLog
 from job_host.service.problems import Problem, unavailable
 from job_host.service.settings import ServeSettings
@@ -51,16 +52,10 @@ log = logging.getLogger(__name__)
 T = TypeVar("T")
 
 RETRY = 0.25
-# batchctl's exit status if it doesn't know its words.
-REFUSED_WORDS = 2
 PRUNE_SECONDS = 3_600.0
 # How many keys are dropped at a time, so that calls needn't wait for all.
 PRUNED = 5_000
-IN_USE_SECONDS = 10.0
 LOG_NAME = "history.log"
-
-# The catalogue to try next, after batchctl has refused one.
-Arrange = Callable[[bytes, CatalogueRefused], Awaitable[bytes]]
 
 
 class EmbeddedKeeper(Keeper):
@@ -224,26 +219,7 @@ class EmbeddedKeeper(Keeper):
         return self.book.line
 
     async def _open(self, catalogue: bytes, arrange: Arrange, *more: str) -> CoProcess:
-        """Opens the log, with more words if there are some. One that is still in use by a program that ends is waited for.
-
-        batchctl looks at the file first. If it is whole and has other jobs, another catalogue is tried.
-        """
-        words = [*self._settings.batchctl, "script", "--log", str(self._log), "--tags", *more]
-        for _ in range(int(IN_USE_SECONDS / RETRY)):
-            try:
-                return await CoProcess.start(words, catalogue)
-            except CatalogueRefused as refused:
-                if growth.other_job(refused.fault) is not None:
-                    catalogue = await arrange(catalogue, refused)
-                    continue
-                if b"LogInUse" not in refused.fault:
-                    raise Fatal(f"{self._log}: {refused}") from refused
-            except CoProcessEnded as ended:
-                if ended.status == REFUSED_WORDS:
-                    raise Fatal(f"{words[0]} has no `script --log FILE --tags`: {ended}") from ended
-                raise
-            await asyncio.sleep(RETRY)
-        raise Fatal(f"{self._log} is in use by another program")
+        return await opened(self._settings.batchctl, self._log, catalogue, arrange, *more)
 
     async def _in_order(self, given: bytes, refused: CatalogueRefused) -> bytes:
         """The catalogue in the order of the log's. Raises what it changes or drops if it was in this order before."""
