@@ -6,13 +6,19 @@ import shutil
 import sqlite3
 from collections.abc import Callable
 from contextlib import closing
+from pathlib import Path
 
 import asyncpg
 import pytest
 from instances import Caller, Instance, running
+from policed import Ahead, end_next, failed, hasten, policing, until_round, with_policies
+from receivers import receiving, words
+from test_scheduled_starts import DAILY, DAY, dates, parameters
 
 from job_host.service.keepers.embedded import LOG_NAME
-from job_host.service.settings import ServeSettings
+from job_host.service.policies import delivery
+from job_host.service.policies.schedules import mark_of
+from job_host.service.settings import HistoryBounds, ServeSettings
 
 Make = Callable[..., ServeSettings]
 
@@ -138,3 +144,83 @@ async def test_emptied_tables_know_no_key(settings: Make, is_earlier: bool) -> N
     await table.close()
     async with running(made) as instance:
         await check_nothing_is_known(instance, before)
+
+
+async def until_told(instance: Instance) -> None:
+    await until_round(instance.service.policies.finding)
+    await until_round(instance.service.policies.sending)
+
+
+@pytest.fixture
+def soon(monkeypatch: pytest.MonkeyPatch) -> None:
+    hasten(monkeypatch)
+    for wait in ("FIRST_WAIT", "FIRST_REST", "LONGEST_WAIT", "LONGEST_REST"):
+        monkeypatch.setattr(delivery, wait, 20)
+
+
+@pytest.mark.usefixtures("soon")
+async def test_a_new_history_tells_of_itself_and_starts_no_date_again(either: Make, tmp_path: Path) -> None:
+    """Nothing is told of the one before. That it is almost full is told anew. A schedule goes on behind its last start."""
+    async with receiving() as receiver:
+        receiver.status = 503
+        folder, bounds = with_policies(tmp_path / "jobs", {"schedule": DAILY}), HistoryBounds(100, 1, 90)
+        made = either(catalogue=folder, is_folder=True, other_history=bounds, **words(tmp_path, receiver))
+        async with policing(made, Ahead(3 * DAY)) as instance:
+            await until_round(instance.service.policies.schedules)
+            assert await parameters(Caller(instance.url)) == dates(3)
+            await end_next(Caller(instance.url))
+            await until_told(instance)
+            before, marks = instance.service.keeper.history, await instance.service.keeper.notes().marks()
+            assert await instance.service.keeper.notes().count() == 2
+        await begin_anew(made)
+        receiver.status = 200
+        async with policing(made, Ahead(3 * DAY)) as instance:
+            caller, keeper = Caller(instance.url), instance.service.keeper
+            await until_told(instance)
+            await until_round(instance.service.policies.schedules)
+            assert await parameters(caller) == [] and receiver.taken == []
+            assert (await keeper.notes().marks())[mark_of("nightly")] == marks[mark_of("nightly")]
+            await failed(caller)
+            await receiver.until_taken(2)
+            await until_told(instance)
+            after = keeper.history
+        async with policing(made, Ahead(4 * DAY)) as instance:
+            await until_round(instance.service.policies.schedules)
+            assert (await parameters(Caller(instance.url)))[1:] == dates(1, 4)
+    assert sorted(receiver.kinds) == [("ALMOST_FULL", 0), ("FAILED", 1)]
+    assert {one["history"] for one in receiver.taken} == {after} != {before}
+
+
+async def begin_anew(made: ServeSettings) -> None:
+    """Takes the operations away, and nothing else."""
+    if not made.postgres:
+        (made.data / LOG_NAME).rename(made.data / "old.log")
+        return
+    table = await asyncpg.connect(made.postgres[0])
+    await table.execute("truncate job_host_operation, job_host_catalogue")
+    await table.close()
+
+
+@pytest.mark.usefixtures("soon")
+async def test_a_log_that_comes_back_has_its_own_marks(embedded: Make, tmp_path: Path) -> None:
+    """What another history has started meanwhile wasn't started in this one. What waited is told."""
+    async with receiving() as receiver:
+        receiver.status = 503
+        folder = with_policies(tmp_path / "jobs", {"schedule": DAILY})
+        made = embedded(catalogue=folder, is_folder=True, **words(tmp_path, receiver))
+        async with policing(made, Ahead(DAY)) as instance:
+            await until_told(instance)
+            await until_round(instance.service.policies.schedules)
+            await end_next(Caller(instance.url))
+            await until_told(instance)
+        await begin_anew(made)
+        async with policing(made, Ahead(2 * DAY)) as instance:
+            await until_round(instance.service.policies.schedules)
+            assert await parameters(Caller(instance.url)) == dates(1, 2)
+        (made.data / "old.log").rename(made.data / LOG_NAME)
+        receiver.status = 200
+        async with policing(made, Ahead(3 * DAY)) as instance:
+            await until_round(instance.service.policies.schedules)
+            assert await parameters(Caller(instance.url)) == dates(3)
+            await receiver.until_taken(1)
+    assert receiver.kinds == [("FAILED", 1)]

@@ -18,6 +18,7 @@ from job_host.service.history.execution_index import Wanted
 from job_host.service.keepers.keeper import Keeper
 from job_host.service.policies.known import SCHEDULER, session_of
 from job_host.service.problems import Problem
+from job_host.service.stores.notifications import SCHEDULE_MARKS
 from job_host.service.terms import moments
 from job_host.service.terms.calls import Call
 from job_host.service.terms.term import Term
@@ -162,4 +163,4 @@ def is_same(one: Schedule | None, other: Schedule) -> bool:
 
 def mark_of(name: str) -> str:
     """The name of a job's mark: any name of a job can't be kept everywhere."""
-    return f"schedule:{fingerprint(name).hex()}"
+    return f"{SCHEDULE_MARKS}{fingerprint(name).hex()}"

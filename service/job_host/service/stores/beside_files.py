@@ -39,10 +39,13 @@ def open_store(folder: Path, beginning: Beginning, may_be_other: bool = False) -
         store.close()
         raise
     if earlier is not None or not (fits or (kept is None and store.is_empty())):
+        # Schedules go by the clock, and on in the new file. One that comes back has its own marks.
+        scheduled = store.notifications.scheduled() if earlier is None else {}
         set_aside(store, folder)
         if earlier is not None:
             earlier.rename(folder / STORE_NAME)
         store = SqliteStore(folder / STORE_NAME)
+        store.notifications.add([], scheduled)
     store.begin_history(beginning)
     return store
 

@@ -6,6 +6,9 @@ from abc import ABC, abstractmethod
 from collections.abc import Mapping, Sequence
 from typing import NamedTuple
 
+# The names of the marks up to which moments jobs were started by their schedules begin so.
+SCHEDULE_MARKS = "schedule:"
+
 
 class NewNotification(NamedTuple):
     """One to keep: its id, the job execution that it is of or 0, and its body, which is JSON in ASCII."""

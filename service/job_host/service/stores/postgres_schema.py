@@ -2,6 +2,8 @@
 
 from __future__ import annotations
 
+from job_host.service.stores.notifications import SCHEDULE_MARKS
+
 SCHEMA = """
 create table if not exists job_host_leader (
     one boolean primary key default true check (one),
@@ -170,10 +172,13 @@ BEGINNING = """
 select first_operation, (select line from job_host_operation where number = 1) as line from job_host_leader
 """
 NOTE_FIRST = "update job_host_leader set first_operation = $1"
-# Another history: request keys, logs and bases belong to the one before it.
-BEGIN_HISTORY = """
+# Another history: request keys, logs, bases and notifications belong to the one before it. The marks of schedules don't: these
+# go by the clock.
+BEGIN_HISTORY = f"""
 with request as (delete from job_host_request), work_log as (delete from job_host_work_log),
-    base as (delete from job_host_base), part as (delete from job_host_base_part), action as (delete from job_host_action)
+    base as (delete from job_host_base), part as (delete from job_host_base_part), action as (delete from job_host_action),
+    notification as (delete from job_host_notification),
+    mark as (delete from job_host_mark where not starts_with(name, '{SCHEDULE_MARKS}'))
 update job_host_leader set history = gen_random_uuid(), first_operation = $1
 """
 

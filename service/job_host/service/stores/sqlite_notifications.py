@@ -5,7 +5,7 @@ from __future__ import annotations
 import sqlite3
 from collections.abc import Mapping, Sequence
 
-from job_host.service.stores.notifications import NewNotification, Notification
+from job_host.service.stores.notifications import SCHEDULE_MARKS, NewNotification, Notification
 
 ADD = "insert or ignore into notification (id, execution, body) values (?, ?, ?)"
 MARK = "insert into mark values (?, ?) on conflict (name) do update set value = excluded.value"
@@ -24,6 +24,10 @@ class NotificationTable:
 
     def marks(self) -> dict[str, int]:
         return dict(self._connection.execute("select name, value from mark"))
+
+    def scheduled(self) -> dict[str, int]:
+        """The marks up to which moments jobs were started by their schedules."""
+        return {name: value for name, value in self.marks().items() if name.startswith(SCHEDULE_MARKS)}
 
     def add(self, notifications: Sequence[NewNotification], marks: Mapping[str, int]) -> None:
         with self._connection:
