@@ -160,6 +160,28 @@ def basing(compactor: tuple[str, ...], dsn: str, catalogue: Path) -> Callable[..
     return make
 
 
+@pytest.fixture(scope="session")
+def one_compactor() -> tuple[str, ...]:
+    """batchctl if it compacts a log, else a stand-in: for tests that are of the service alone."""
+    batchctl = find_batchctl(None)
+    return batchctl if can_compact(batchctl) else (str(STAND_IN),)
+
+
+@pytest.fixture(params=["postgres", "log"])
+def based(
+    request: pytest.FixtureRequest, one_compactor: tuple[str, ...], tmp_path: Path, catalogue: Path
+) -> Callable[..., ServeSettings]:
+    """Settings of a service over PostgreSQL, and of one over a log of its own, whose program makes bases."""
+    over_log = request.param == "log"
+    kept: dict[str, Any] = {"data": tmp_path / "data"} if over_log else {"postgres": (request.getfixturevalue("dsn"),)}
+
+    def make(**more: Any) -> ServeSettings:
+        given: dict[str, Any] = {"port": 0, "takeover_after": 1.5, "lease": 10.0, "catalogue": catalogue, **kept, **more}
+        return ServeSettings(batchctl=one_compactor, **given)
+
+    return make
+
+
 @pytest.fixture(params=["settings", "embedded"])
 def either(request: pytest.FixtureRequest) -> Callable[..., ServeSettings]:
     """Settings of a service over PostgreSQL, and of one over a log of its own."""

@@ -6,7 +6,6 @@ from collections.abc import Callable, Sequence
 from pathlib import Path
 
 import pytest
-from based import compact
 from instances import SHORT_PAUSE, Caller, Instance, until
 from policed import Ahead, done_to, end_next, executions_of, failed, hasten, policing, until_round, with_policies
 
@@ -241,25 +240,6 @@ async def test_what_is_due_is_found_after_a_start(either: Make, tmp_path: Path) 
             assert await executions_of(caller) == [*range(1, number + 1)]
         async with policing(made, Ahead(100)) as instance:
             caller = Caller(instance.url)
-            await until_restarts(instance)
-            assert await executions_of(caller) == [*range(1, min(number + 2, 4))]
-
-
-async def test_a_base_knows_how_often_and_what_was_lost(compacting: Make, tmp_path: Path) -> None:
-    """The log was compacted between: its base alone doesn't tell that."""
-    policies = {"restart": {"afterLostWorker": True, "most": 2}}
-    made = compacting(catalogue=with_policies(tmp_path / "jobs", policies), is_folder=True)
-    for number in (1, 2, 3):
-        async with policing(made, Ahead()) as instance:
-            caller = Caller(instance.url)
-            if number == 1:
-                await caller.start("nightly")
-            work = (await caller.claim()).told["work"]["work"]
-            assert (await caller.ask("PUT", f"/batch/work/{work}?action=lose")).status == 200
-            assert not (await compact(instance)).failure
-        async with policing(made, Ahead(1_000)) as instance:
-            caller = Caller(instance.url)
-            assert instance.service.keeper.reading().base is not None
             await until_restarts(instance)
             assert await executions_of(caller) == [*range(1, min(number + 2, 4))]
 

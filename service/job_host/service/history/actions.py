@@ -12,6 +12,7 @@ from job_host.service.history.numbers import Numbers
 from job_host.service.pages import Page
 
 ACTIONS = ("start", "restart", "stop", "abandon", "purge", "lose")
+MAKING = ("start", "restart")
 PLACES = {name: place for place, name in enumerate(ACTIONS)}
 # Numbers of a row: those of an action, and the row before it on the same job execution.
 WIDTH = 6
@@ -77,6 +78,11 @@ class Actions:
     def behind(self, execution: int, operation: int) -> list[Action]:
         """What was done to a job execution behind an operation, the newest first."""
         return list(takewhile(lambda one: one.operation > operation, map(self._action, self._rows_of(execution))))
+
+    def making(self, execution: int) -> Action | None:
+        """The start or restart that made a job execution. None if it was before a base, and who did what is forgotten."""
+        made = (one for one in map(self._action, self._rows_of(execution)) if one.of == execution)
+        return next((one for one in made if one.name in MAKING), None)
 
     def made_at(self, execution: int) -> int:
         """The moment of the start or restart that made a job execution. They rise with its number."""

@@ -80,8 +80,8 @@ class Finder:
         if (until, last) == (marks[OPERATIONS], marks[MOMENT]):
             return
         found, self._is_cut = list[Event](), False
-        # An older copy of the history may have taken its place: then all of it is looked at.
-        changed = self._changed(marks[OPERATIONS] if marks[OPERATIONS] < until else 0, until)
+        # Later events have later moments. A base doesn't tell that of a purge, which may have come last.
+        changed = self._changed(marks[OPERATIONS], until) if last > marks[MOMENT] else ()
         for begin in range(0, len(changed), BLOCK):
             found += await self._events_of(changed[begin : begin + BLOCK], marks[MOMENT], last)
             if len(found) > room:
@@ -94,7 +94,8 @@ class Finder:
 
     def _changed(self, before: int, until: int) -> Sequence[int]:
         """The job executions on which operations behind `before` are."""
-        engine = self._term.engine
+        # If an older copy of the history has taken its place, all of it is looked at.
+        engine, before = self._term.engine, before if before < until else 0
         named = engine.changes.between(before, until)
         if named is not None:
             return [one for one in named if engine.executions.is_there(one)]

@@ -115,11 +115,11 @@ class Restarts:
         return bool(failed) and all(policy.covers(one.exit, one.work in lost) for one in failed)
 
     def _made(self, instance: int, session: int | None) -> int:
-        """How many job executions of a job instance the policy has made. A restart is noted of the earlier one, too."""
+        """How many job executions of a job instance the policy has made, or may have made: it makes no more than it says."""
         engine = self._term.engine
-        numbers = engine.executions.of_instance(instance, ALL)
-        noted = ((number, action) for number in numbers for action in engine.actions.behind(number, 0))
-        return sum(one.name == "restart" and one.of == number and one.session == session for number, one in noted)
+        *restarts, _ = engine.executions.of_instance(instance, ALL)
+        making = [engine.actions.making(one) for one in restarts]
+        return sum(one is None or one.session == session for one in making)
 
     def _is_so(self, execution: int, plan: Plan) -> bool:
         """Whether nobody did anything to the job execution since it was planned."""

@@ -84,16 +84,23 @@ class Schedules:
         """Up to which moment nothing is to be started any more: none before the schedule was there."""
         mark = (self._marks or {}).get(mark_of(name))
         begun = in_force_since(self._keeper, book, name, schedule)
-        return max(begun, mark if mark is not None else await self._last_start(name))
+        return max(begun, mark if mark is not None else await self._last_start(name, begun))
 
-    async def _last_start(self, name: str) -> int:
-        """When the schedule last started a job, by the history. 0 if its newest job executions don't tell."""
+    async def _last_start(self, name: str, since: int) -> int:
+        """When the schedule last started a job behind a moment, by the history. 0 if its newest job executions don't tell.
+
+        Of those before a base it may be forgotten who made them: then the schedule may have.
+        """
         engine, session = self._term.engine, await session_of(self._term, SCHEDULER)
-        if session is None:
+        if session is None and engine.base is None:
             return 0
-        found, _ = await engine.executions.find(Wanted(job=name), 0, LOOKED_AT, None)
-        made = [one for number in found for one in engine.actions.behind(number, 0) if one.of == number]
-        return max((one.moment for one in made if one.name == "start" and one.session == session), default=0)
+        wanted = Wanted(job=name, numbers=engine.made_between(since, None))
+        found, _ = await engine.executions.find(wanted, 0, LOOKED_AT, None)
+        return max((engine.actions.made_at(one) for one in found if self._may_have_made(one, session)), default=0)
+
+    def _may_have_made(self, execution: int, session: int | None) -> bool:
+        making = self._term.engine.actions.making(execution)
+        return making is None or (making.name == "start" and making.session == session)
 
     async def _start_all(self, name: str, schedule: Schedule, done: int, now: int) -> int:
         """Starts what is due behind a moment. Returns up to which one that is done now."""
