@@ -21,6 +21,7 @@ from job_host.service.history.coprocess import CoProcessEnded
 from job_host.service.keepers import due, postgres_compacting
 from job_host.service.keepers.base_making import BaseMaking
 from job_host.service.settings import ServeSettings
+from job_host.service.stores import local_files
 from job_host.service.stores import postgres_bases as bases_module
 from job_host.service.stores.local_files import PREFIX
 from job_host.service.stores.postgres_bases import PostgresBases
@@ -380,7 +381,8 @@ async def test_behind_its_base_a_leader_goes_on_with_another_batchctl(
     basing: Make, monkeypatch: pytest.MonkeyPatch, tmp_path: Path
 ) -> None:
     """Its log has the base, and no longer all since the start. Calls go on, and each is made once."""
-    monkeypatch.setattr("tempfile.tempdir", str(tmp_path))
+    monkeypatch.delenv("TMPDIR", raising=False)
+    monkeypatch.setattr(local_files, "MEMORY", tmp_path)
     monkeypatch.setattr(due, "MANY", 14)
     monkeypatch.setattr(postgres_compacting, "LOOK_SECONDS", 0.05)
     made = basing()

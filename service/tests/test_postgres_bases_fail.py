@@ -25,6 +25,7 @@ from job_host.service.keepers import base_making, due, postgres_compacting
 from job_host.service.keepers.local_logs import LocalLogs
 from job_host.service.keepers.postgres_jobs import PostgresJobs
 from job_host.service.settings import ServeSettings
+from job_host.service.stores import local_files
 from job_host.service.stores import postgres_bases as bases_module
 from job_host.service.stores.local_files import PREFIX, LocalFiles
 from job_host.service.stores.postgres_bases import PostgresBases
@@ -387,41 +388,9 @@ async def never(*given: Any) -> bool:
     raise asyncpg.InterfaceError("it was cut off")
 
 
-def test_local_files_are_private_and_go(tmp_path: Path, monkeypatch: pytest.MonkeyPatch) -> None:
-    """A folder that another instance has stays, and so does what isn't a folder."""
-    monkeypatch.setattr("tempfile.tempdir", str(tmp_path))
-    other, left, link = LocalFiles(), tmp_path / f"{PREFIX}left", tmp_path / f"{PREFIX}link"
-    theirs = other.new()
-    theirs.write_text("theirs")
-    (left / "1").mkdir(parents=True)
-    (left / "1" / "history.log").write_text("old")
-    link.symlink_to(tmp_path)
-    own = LocalFiles()
-    path = own.new()
-    assert path.parent.parent.stat().st_mode & 0o777 == 0o700 and path.parent.parent.parent == tmp_path
-    assert not left.exists() and theirs.read_text() == "theirs" and link.is_symlink()
-    path.write_text("one")
-    second = own.new()
-    second.write_text("two")
-    own.drop(path)
-    assert (path.parent.exists(), second.read_text()) == (False, "two")
-    own.close()
-    other.close()
-    assert list(tmp_path.iterdir()) == [link]
-
-
-def test_local_files_whose_folder_was_removed_have_another_one(tmp_path: Path, monkeypatch: pytest.MonkeyPatch) -> None:
-    monkeypatch.setattr("tempfile.tempdir", str(tmp_path))
-    files = LocalFiles()
-    first = files.new()
-    files.drop(first.parent)
-    second = files.new()
-    assert not first.parent.parent.exists() and second.parent.is_dir()
-    files.close()
-
-
 async def test_the_file_of_a_process_goes_with_it(basing: Make, tmp_path: Path, monkeypatch: pytest.MonkeyPatch) -> None:
-    monkeypatch.setattr("tempfile.tempdir", str(tmp_path / "own"))
+    monkeypatch.delenv("TMPDIR", raising=False)
+    monkeypatch.setattr(local_files, "MEMORY", tmp_path / "own")
     (tmp_path / "own").mkdir()
     made = basing()
     async with running(made) as instance:

@@ -17,50 +17,84 @@ PREFIX = "jobhost-local-"
 # The folder's name until it is locked.
 MAKING = "jobhost-making-"
 FILE_NAME = "history.log"
+# A file system in memory: there a sync costs nothing. It is taken if it has so many bytes of room.
+MEMORY = Path("/dev/shm")
+ENOUGH_ROOM = 2**30
+# It isn't taken again after a file went with which it had no more than these.
+NO_ROOM = 2**26
+
+
+class LocalFolder:
+    """A folder that is closed to others and locked. What tidies temporary files passes over folders that are locked.
+
+    What an instance has left that was killed isn't locked any more: the next one of the same user removes it.
+    """
+
+    def __init__(self, parent: Path) -> None:
+        making = Path(tempfile.mkdtemp(prefix=MAKING, dir=parent))
+        self.path = making.with_name(PREFIX + making.name.removeprefix(MAKING))
+        for left in parent.glob(f"{PREFIX}*"):
+            remove_left(left)
+        self._lock = os.open(making, os.O_RDONLY | os.O_DIRECTORY)
+        fcntl.flock(self._lock, fcntl.LOCK_EX)
+        making.rename(self.path)
+
+    def close(self) -> None:
+        """Removes all files."""
+        shutil.rmtree(self.path, ignore_errors=True)
+        os.close(self._lock)
 
 
 class LocalFiles:
-    """A folder in that of temporary files (TMPDIR), closed to others and locked. It is made when the first file is wanted.
+    """Files in a folder in memory, else in the folder of temporary files. If TMPDIR is set, they are there.
 
-    What an instance has left that was killed isn't locked any more: the next one of the same user removes it. What tidies
-    temporary files passes over folders that are locked.
+    A folder is made when the first file in it is wanted.
     """
 
     def __init__(self) -> None:
         self._numbers = count(1)
-        self._folder: Path | None = None
-        self._lock = -1
+        self._folders: dict[Path, LocalFolder] = {}
+        self._memory_was_full = False
 
     def new(self) -> Path:
         """The name of a file that isn't there, in a folder of its own. Raises OSError if there is no room for that."""
-        if self._folder is None or not self._folder.is_dir():
-            self.close()
-            self._folder = self._made()
-        folder = self._folder / str(next(self._numbers))
-        folder.mkdir(mode=0o700)
-        return folder / FILE_NAME
+        parent = self._parent()
+        folder = self._folders.get(parent)
+        if folder is None or not folder.path.is_dir():
+            if folder is not None:
+                folder.close()
+                del self._folders[parent]
+            folder = self._folders[parent] = LocalFolder(parent)
+        path = folder.path / str(next(self._numbers))
+        path.mkdir(mode=0o700)
+        return path / FILE_NAME
 
-    def _made(self) -> Path:
-        making = Path(tempfile.mkdtemp(prefix=MAKING))
-        folder = making.with_name(PREFIX + making.name.removeprefix(MAKING))
-        for left in making.parent.glob(f"{PREFIX}*"):
-            remove_left(left)
-        self._lock = os.open(making, os.O_RDONLY | os.O_DIRECTORY)
-        fcntl.flock(self._lock, fcntl.LOCK_EX)
-        making.rename(folder)
-        return folder
+    def _parent(self) -> Path:
+        if "TMPDIR" in os.environ or self._memory_was_full or not has_room(MEMORY, ENOUGH_ROOM):
+            return Path(tempfile.gettempdir())
+        return MEMORY
 
-    @staticmethod
-    def drop(path: Path) -> None:
+    def drop(self, path: Path) -> None:
         """Removes a file with all that stands beside it."""
+        if not self._memory_was_full and path.is_relative_to(MEMORY) and not has_room(MEMORY, NO_ROOM):
+            self._memory_was_full = True
+            log.warning("%s has no more room: batchctl gets files in the folder of temporary files from now on", MEMORY)
         shutil.rmtree(path.parent, ignore_errors=True)
 
     def close(self) -> None:
         """Removes all files."""
-        if self._folder is not None:
-            shutil.rmtree(self._folder, ignore_errors=True)
-            os.close(self._lock)
-            self._folder = None
+        for folder in self._folders.values():
+            folder.close()
+        self._folders.clear()
+
+
+def has_room(folder: Path, least: int) -> bool:
+    """Whether files of so many bytes may be made there."""
+    try:
+        found = os.statvfs(folder)
+    except OSError:
+        return False
+    return found.f_bavail * found.f_frsize >= least and os.access(folder, os.W_OK | os.X_OK)
 
 
 def remove_left(folder: Path) -> None:
