@@ -362,7 +362,12 @@ async def test_metrics_say_how_things_stand(settings: Make) -> None:
         text = (await caller.ask("GET", "/metrics")).told
     lines = set(text.splitlines())
     wanted = ['jobhost_job_executions{status="STARTED"} 1.0', 'jobhost_job_executions{status="STARTING"} 1.0']
-    wanted += ["jobhost_operations 3.0", "jobhost_history_full_ratio 3e-06", "jobhost_leads 1.0", "jobhost_work_items_held 1.0"]
+    wanted += [
+        "jobhost_operations 3.0",
+        f"jobhost_history_full_ratio {3 / 4_294_967_296}",
+        "jobhost_leads 1.0",
+        "jobhost_work_items_held 1.0",
+    ]
     assert set(wanted) <= lines
     commits = [line for line in lines if line.startswith("jobhost_commit_seconds_count")]
     assert float(commits[0].split()[1]) >= 3

@@ -4,6 +4,7 @@ from __future__ import annotations
 
 import json
 import os
+import re
 from pathlib import Path
 
 import pytest
@@ -16,6 +17,7 @@ from job_host.catalogue.schedules import Schedule
 from job_host.catalogue.versions import read_for_workers
 from job_host.commands.command_line import main
 
+PAGE = Path(__file__).resolve().parents[2] / "docs" / "CATALOGUE.md"
 JSL = """<job id="a" xmlns="https://jakarta.ee/xml/ns/jakartaee" version="2.0">
 <step id="load" next="both"><batchlet ref="b"/></step>
 <split id="both" next="day"><flow id="f"><step id="copy"><batchlet ref="b"/></step></flow></split>
@@ -46,6 +48,15 @@ def test_each_step_has_its_time(jobs: Path) -> None:
     assert read_folder(jobs, ()).for_workers["a"].steps == {"load": {"timeout": 90_000}, "copy": {"timeout": 90}}
     for nothing in ("{}", '{"steps": {}}', '{"steps": {"load": {}}}'):
         assert refused(jobs, nothing) == [] and read_folder(jobs, ()).for_workers["a"].steps == {}
+
+
+def test_the_settings_that_the_page_shows_are_read(jobs: Path) -> None:
+    shown = re.findall(r"^```conf\n(.*?)^```", PAGE.read_text(), re.M | re.S)
+    assert [refused(jobs, settings) for settings in shown] == [[]]
+    read = read_folder(jobs, ()).for_workers["a"]
+    schedule = Schedule(read_cron("0 1 * * *"), "Europe/Berlin", "catchUp", (), "date")
+    restart = RestartPolicy(True, ("TEMPORARY*",), 3, 30, 3_600)
+    assert (read.steps, read.policies) == ({"load": {"timeout": 3_600}}, JobPolicies(restart, JobTimeout(14_400, 60), schedule))
 
 
 IN_JOB, IN_LOAD = 'settings in job "a"', 'settings in job "a", step "load" (number 0)'
