@@ -379,6 +379,25 @@ PAGES: list[tuple[str, Any]] = [
         "2026-11-27 06:30:00: it goes on",
     ),
 ]
+HELD = f"""{{work: 7, stepName: 'load', partition: null, executionId: 3, client: 'w1', since: {SIX}, leaseRemaining: 20.4}}"""
+PAGES.append(
+    (
+        f"{cells(f'work.draw([{HELD}, {{...{HELD}, draining: true}}], {{query: new URLSearchParams()}}, () => false)')}"
+        ".map((row) => row[7])",
+        ["20 s", "20 s, draining"],
+    )
+)
+# What a worker holds, whether its claim waits, and whether it drains.
+WORKERS: list[tuple[str, Any]] = [
+    (f"asks({{work: {work}, waits: {waits}, draining: {draining}}})", said)
+    for work, waits, draining, said in (
+        ("[1]", "true", "false", "yes"),
+        ("[1]", "false", "false", "no"),
+        ("[1]", "null", "null", "the leader knows"),
+        ("[1]", "false", "true", "no, it is draining"),
+        ("[]", "false", "true", "no, it has drained"),
+    )
+]
 MANY: list[tuple[str, Any]] = [
     (f"mayBeChosen({{batchStatus: '{status}', mostRecent: {recent}}})", may)
     for status, recent, may in (
@@ -398,6 +417,7 @@ CASES = {
     "open.js": OPEN,
     "pages.js": PAGES,
     "many.js": MANY,
+    "workers.js": WORKERS,
 }
 # Wrong bodies, by the file whose expressions notice them: the file that has it, what stands there, and what is wrong.
 PLANTS = {
@@ -486,7 +506,16 @@ PLANTS = {
         ("open.js", "lasting(one.longestBefore)", "lasting(one.seconds)"),
         ("open.js", "...(late || [])", "...late"),
     ],
+    "workers.js": [
+        ("workers.js", "if (draining) return", "if (draining && work.length) return"),
+        ("workers.js", "if (draining) return", "if (draining !== false) return"),
+        ("workers.js", 'work.length ? "no, it is', '!work.length ? "no, it is'),
+        ("workers.js", 'waits === null ? "the leader knows" : ', ""),
+        ("workers.js", 'waits ? "yes" : "no"', '"no"'),
+        ("workers.js", 'waits ? "yes" : "no"', 'waits === false ? "yes" : "no"'),
+    ],
     "pages.js": [
+        ("pages.js", 'one.draining ? ", draining" : ""', '!one.draining ? ", draining" : ""'),
         ("pages.js", "open[status], status", "statusCounts[status], status"),
         ("pages.js", 'status === current ? "#/" : ', ""),
         ("pages.js", "sum + number", "sum + 1"),

@@ -63,6 +63,7 @@ async def test_workers_with_what_they_hold(either: Make, monkeypatch: pytest.Mon
             "lastClaim": "1970/01/01 00:01:00.000 +0000",
             "lastSign": None,
             "artifacts": None,
+            "draining": False,
         }
         assert (await told(reader))["workers"] == [{**seen, "work": held, "moreWork": 1}]
         calls: list[tuple[int, str, Any]] = [
@@ -110,6 +111,8 @@ async def test_a_follower_knows_who_holds_what(settings: Make) -> None:
         assert (answer["silence"], answer["noneAsks"]) == (None, None)
         (one,) = answer["workers"]
         assert (one["client"], one["waits"], one["lastClaim"], one["work"][0]["work"]) == ("farm", None, None, 1)
+        (held,) = (await Caller(follower.url).ask("GET", "/batch/work")).told
+        assert one["draining"] is held["draining"] is None
 
 
 async def test_artifacts_that_a_worker_tells_with_its_claim(settings: Make) -> None:

@@ -21,7 +21,7 @@ def run(url: str, folder: str, database: str) -> None:
     """A worker with one slot. The database is told which one it is."""
     signal.signal(signal.SIGCHLD, signal.SIG_DFL)
     os.environ["DATABASE"] = f"{database}?application_name={os.getpid()}"
-    asyncio.run(worker.work(Address((url,), f"worker-{os.getpid()}"), Path(folder), 1))
+    asyncio.run(worker.work(Address((url,), f"worker-{os.getpid()}"), worker.WorkerSettings(Path(folder))))
 
 
 def main() -> None:

@@ -16,6 +16,8 @@ from job_host.service.settings import ServeSettings
 
 # Each busy slot may have a heartbeat and a report in hand.
 MOST_SLOTS = REQUESTS_AT_ONCE // 2
+# So long `jobhost worker --once` waits for work, if it isn't told for how long.
+ONCE_SECONDS = 30.0
 
 Subcommands = argparse._SubParsersAction  # argparse has no public name for it
 
@@ -167,6 +169,7 @@ def serve_settings(given: argparse.Namespace) -> ServeSettings:
 
 def add_worker(subcommands: Subcommands[argparse.ArgumentParser]) -> None:
     from job_host.commands.address import OWN_NAME, add_address
+    from job_host.commands.options import seconds
 
     told = "runs work items by the executables of a folder"
     parser = subcommands.add_parser("worker", help=told, description=told)
@@ -176,6 +179,12 @@ def add_worker(subcommands: Subcommands[argparse.ArgumentParser]) -> None:
     parser.add_argument("--slots", type=int, default=1, metavar="N", help=slots)
     system = "a variable of this environment that jobs may name as a system property; it may come several times (default: none)"
     parser.add_argument("--system-property", action="append", default=[], metavar="NAME", help=system)
+    grace = "after SIGTERM or SIGINT its work items have so long to end; what is left is cut off (default: %(default)g)"
+    parser.add_argument("--grace", type=seconds, default=30.0, metavar="SECONDS", help=grace)
+    once = "runs one work item, and ends: the exit status is 0 if its end was reported, 3 if not, 4 if no work came"
+    parser.add_argument("--once", action="store_true", help=once)
+    wait = f"with --once, for how long work is waited for (default: {ONCE_SECONDS:g})"
+    parser.add_argument("--wait", type=seconds, metavar="SECONDS", help=wait)
     parser.set_defaults(run=run_worker)
 
 
@@ -183,15 +192,18 @@ def run_worker(given: argparse.Namespace) -> int:
     import asyncio
 
     from job_host.commands.address import address_of
-    from job_host.worker.worker import work, worker_address
+    from job_host.worker.worker import WorkerSettings, work, worker_address
 
     begin_log("jobhost worker")
     if not given.artifacts.is_dir() or not 1 <= given.slots <= MOST_SLOTS:
         print(f"jobhost worker: --artifacts is a folder, and --slots 1 to {MOST_SLOTS}", file=sys.stderr)
         return 2
-    address, names = worker_address(address_of(given), given.client), given.system_property
-    asyncio.run(work(address, given.artifacts.resolve(), given.slots, names))
-    return 0
+    if (given.once and given.slots != 1) or (given.wait is not None and not given.once):
+        print("jobhost worker: --once has one slot, and --wait is for --once", file=sys.stderr)
+        return 2
+    once = None if not given.once else ONCE_SECONDS if given.wait is None else given.wait
+    settings = WorkerSettings(given.artifacts.resolve(), given.slots, given.system_property, given.grace, once)
+    return asyncio.run(work(worker_address(address_of(given), given.client), settings))
 
 
 class ShowVersion(argparse.Action):

@@ -10,6 +10,8 @@ from job_host.commands import jobs
 from job_host.commands.address import Subcommands, add_address
 from job_host.commands.jobs import Command
 
+# 31 years: no clock of the system ends before that.
+MOST_SECONDS = 1e9
 WAITS = "waits for the end: the exit status is 0 COMPLETED, 3 FAILED, 4 STOPPED, 5 ABANDONED"
 
 
@@ -18,6 +20,17 @@ def positive(text: str) -> int:
     if not text.isascii() or not text.isdigit() or int(text) < 1:
         raise argparse.ArgumentTypeError(f"{text!r} is no whole number from 1 on")
     return int(text)
+
+
+def seconds(text: str) -> float:
+    """A number of seconds from 0 on."""
+    try:
+        found = float(text)
+    except ValueError:
+        found = -1.0
+    if not 0 <= found <= MOST_SECONDS:
+        raise argparse.ArgumentTypeError(f"{text!r} is no number of seconds from 0 to {MOST_SECONDS:.0f}")
+    return found
 
 
 def time_of_day(text: str) -> time:

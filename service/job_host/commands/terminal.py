@@ -115,10 +115,20 @@ def instance_table(told: Sequence[Told], in_utc: bool) -> Table:
     return table
 
 
+def worker_text(one: Told) -> str | None:
+    """The worker that holds a work item, and whether it drains."""
+    return f"{one['client']} (draining)" if one.get("draining") else one["client"]
+
+
 def work_table(told: Sequence[Told], in_utc: bool) -> Table:
     """Work items that are under way, and which worker holds each."""
     table = folded("work item", "job", "job execution", "step", "partition", "worker", "since")
     for one in told:
-        shown = [one["work"], job_text(one), *(one[name] for name in ("executionId", "stepName", "partition", "client"))]
+        shown = [
+            one["work"],
+            job_text(one),
+            *(one[name] for name in ("executionId", "stepName", "partition")),
+            worker_text(one),
+        ]
         table.add_row(*map(plain, shown), clock(one["since"], in_utc))
     return table

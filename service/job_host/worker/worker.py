@@ -5,7 +5,7 @@ from __future__ import annotations
 import asyncio
 import logging
 import os
-import signal
+import time
 import uuid
 from collections.abc import Awaitable, Sequence
 from contextlib import ExitStack, suppress
@@ -21,6 +21,7 @@ from job_host.protocol.seldom import seldom
 from job_host.worker import artifacts
 from job_host.worker.artifacts import Artifact, Ended, Program
 from job_host.worker.chunks import Chunk
+from job_host.worker.draining import CUT_OFF, DRAINED, NO_WORK, Ending, tell_drain
 from job_host.worker.environment import WorkFiles, environment, use_of
 from job_host.worker.folder import ArtifactFolder
 from job_host.worker.listeners import Listeners
@@ -30,6 +31,8 @@ from job_host.worker.steps import StepRun, Task
 log = logging.getLogger(__name__)
 
 CLAIM_SECONDS = 10.0
+# So much longer an answer to a claim may take than the claim waits, if the worker doesn't wait for ever.
+ANSWER_SECONDS = 5.0
 FOREVER = 10.0**9
 DRAIN_SECONDS = 5.0
 HURRY_SECONDS = 5.0
@@ -145,20 +148,48 @@ class Batchlet:
 class Worker:
     """Slots that run one work item each at a time. While a slot is free, one claim waits for all of them.
 
-    `ending` says that nothing new is claimed.
+    `is_cut_off` says that a work item which it had as it was told to end wasn't run to its end and reported, or may not be.
     """
 
-    def __init__(self, client: Client, folder: Path, slots: int, system_properties: Sequence[str] = ()) -> None:
+    def __init__(
+        self,
+        client: Client,
+        folder: Path,
+        slots: int,
+        system_properties: Sequence[str] = (),
+        ending: Ending | None = None,
+    ) -> None:
         self._client = client
         self._system_properties = {name: os.environ[name] for name in system_properties if name in os.environ}
         self._folder = ArtifactFolder(folder)
         self._slots = slots
         self._tells_artifacts = True
-        self.ending = asyncio.Event()
-        self.hurry = asyncio.Event()
+        self.is_cut_off = False
+        self._ending = ending or Ending()
+        self.ending, self.hurry = self._ending.told, self._ending.hurry
 
-    async def run(self) -> None:
-        """Works until it is told to end, and what it runs has ended."""
+    async def run(self) -> int:
+        """Works until it is told to end, and what it runs has ended. Returns the exit status."""
+        telling = asyncio.ensure_future(tell_drain(self._ending, self._client.operate))
+        try:
+            await self._work()
+        finally:
+            await cancel(telling)
+        return CUT_OFF if self.is_cut_off else DRAINED
+
+    async def run_once(self, seconds: float) -> int:
+        """Runs one work item, if one comes in so many seconds. Returns the exit status."""
+        telling = asyncio.ensure_future(tell_drain(self._ending, self._client.operate))
+        try:
+            claimed = await self._first(seconds)
+            is_whole = claimed is None or await self._take(claimed)
+        finally:
+            await cancel(telling)
+        if self.is_cut_off or not is_whole:
+            return CUT_OFF
+        return NO_WORK if claimed is None else DRAINED
+
+    async def _work(self) -> None:
         running: set[asyncio.Future[Any]] = set()
         while not self.ending.is_set():
             # By a thread: a file system that hangs mustn't hold up heartbeats.
@@ -167,13 +198,35 @@ class Worker:
             elif len(running) < self._slots:
                 claimed = await self._next()
                 if "work" in claimed:
-                    self._complete(claimed)
-                    self._folder.note(claimed["work"], claimed.get("step", {}))
-                    running.add(asyncio.ensure_future(self._run(claimed)))
+                    running.add(asyncio.ensure_future(self._take(claimed)))
             else:
                 await self._until_free(running)
             running = still_running(running)
         await asyncio.gather(*running)
+
+    async def _first(self, seconds: float) -> dict[str, Any] | None:
+        """Claims until there is a work item. Returns none if none came in time, or before the worker was told to end."""
+        deadline = time.monotonic() + seconds
+        while not self.ending.is_set():
+            left = max(0.0, deadline - time.monotonic())
+            claimed: dict[str, Any] = {}
+            if await asyncio.to_thread(self._folder.may_claim):
+                wait = min(CLAIM_SECONDS, left)
+                claimed = await self._next(wait, wait + ANSWER_SECONDS)
+            else:
+                await self._look_later()
+            if "work" in claimed:
+                return claimed
+            # A job execution that was only closed is no work, and there may be more behind it.
+            if not left and "closed" not in claimed:
+                return None
+        return None
+
+    def _take(self, claimed: dict[str, Any]) -> Awaitable[bool]:
+        """Runs what was claimed."""
+        self._complete(claimed)
+        self._folder.note(claimed["work"], claimed.get("step", {}))
+        return self._run(claimed)
 
     def _complete(self, claimed: dict[str, Any]) -> None:
         """Puts the system properties that may be told into the properties of a work item."""
@@ -194,28 +247,29 @@ class Worker:
         finally:
             await cancel(telling)
 
-    async def _next(self) -> dict[str, Any]:
-        """Claims a work item. Returns no member `work` if there is none."""
+    async def _next(self, wait: float = CLAIM_SECONDS, longest: float | None = None) -> dict[str, Any]:
+        """Claims a work item. Returns no member `work` if there is none. After the longest time the claim is withdrawn."""
         key = uuid.uuid4().hex
         try:
-            return await self._claim(key) or await self._withdraw(key)
+            return await self._claim(key, wait, longest) or await self._withdraw(key)
         except Refused as refused:
             log.warning("a claim was refused: %s", refused)
             # A service of an earlier version knows no such member.
             self._tells_artifacts = self._tells_artifacts and refused.name != "BadRequest"
             await asyncio.sleep(1.0)
         except (Lost, Unreachable) as fault:
-            log.warning("a claim couldn't be withdrawn: %s", fault)
+            log.warning("a claim couldn't be withdrawn, and may have been given a work item: %s", fault)
+            self.is_cut_off = True
         return {}
 
-    async def _claim(self, key: str) -> dict[str, Any] | None:
+    async def _claim(self, key: str, wait: float, longest: float | None) -> dict[str, Any] | None:
         """Claims, until the worker is told to end: then the connection is closed, and there is no answer."""
         news = await asyncio.to_thread(self._folder.news) if self._tells_artifacts else None
-        body: dict[str, Any] = {"wait": CLAIM_SECONDS, **({} if news is None else {"artifacts": news})}
-        call = self._client.operate("POST", "/batch/work", body, CLAIM_SECONDS, FOREVER, key)
+        body: dict[str, Any] = {"wait": wait, **({} if news is None else {"artifacts": news})}
+        call = self._client.operate("POST", "/batch/work", body, wait, FOREVER, key)
         claiming, telling = asyncio.ensure_future(call), asyncio.ensure_future(self.ending.wait())
         try:
-            await asyncio.wait([claiming, telling], return_when=asyncio.FIRST_COMPLETED)
+            await asyncio.wait([claiming, telling], timeout=longest, return_when=asyncio.FIRST_COMPLETED)
             return dict(claiming.result()) if claiming.done() else None
         finally:
             await cancel(claiming, telling)
@@ -225,9 +279,12 @@ class Worker:
         call = self._client.operate("DELETE", "/batch/work", patience=CLAIM_SECONDS, key=key)
         return dict(await until_told(call, self.ending, CLAIM_SECONDS))
 
-    async def _run(self, claimed: dict[str, Any]) -> None:
-        """Runs a work item under its lease, and reports how it ended, if it is still this worker's."""
-        tail, told = Tail(), Told()
+    async def _run(self, claimed: dict[str, Any]) -> bool:
+        """Runs a work item under its lease, and reports how it ended, if it is still this worker's.
+
+        Returns whether it was run to its end, and the report was taken.
+        """
+        tail, told, is_whole = Tail(), Told(), False
         beating = asyncio.ensure_future(self._beat(claimed, tail, told))
         running = asyncio.ensure_future(self._run_artifact(claimed, tail, told))
         giving_up = [asyncio.ensure_future(told.lost.wait()), asyncio.ensure_future(self.hurry.wait())]
@@ -240,12 +297,15 @@ class Worker:
                 tail.say("the worker was told to end")
             if not told.lost.is_set():
                 await self._finish(claimed, await self._ended(running), tail)
+                is_whole = not running.cancelled()
         except Lost as lost:
             log.warning("work item %d: %s", claimed["work"]["work"], lost)
         finally:
             for task in (beating, *giving_up):
                 task.cancel()
             await asyncio.gather(beating, *giving_up, return_exceptions=True)
+        self.is_cut_off = self.is_cut_off or (self.ending.is_set() and not is_whole)
+        return is_whole
 
     @staticmethod
     async def _ended(running: asyncio.Future[Ended]) -> Ended:
@@ -311,17 +371,21 @@ def worker_address(address: Address, given: str | None) -> Address:
     return replace(address, client=given or f"{address.client}-{uuid.uuid4().hex[:12]}")
 
 
-async def work(address: Address, folder: Path, slots: int, system_properties: Sequence[str] = ()) -> None:
-    """Works until a signal; what runs then is run to its end. After a second signal it is killed, and is FAILED."""
+@dataclass(frozen=True)
+class WorkerSettings:
+    """What a worker has, and how it ends. With `once` it runs one work item, if that comes within so many seconds."""
+
+    folder: Path
+    slots: int = 1
+    system_properties: Sequence[str] = ()
+    grace: float | None = None
+    once: float | None = None
+
+
+async def work(address: Address, settings: WorkerSettings) -> int:
+    """Works until a signal. What runs then has its grace to end, or until a second signal. Returns the exit status."""
     async with Client(address, seldom(log.warning)) as client:
-        worker = Worker(client, folder, slots, system_properties)
-
-        def end() -> None:
-            if worker.ending.is_set():
-                worker.hurry.set()
-            worker.ending.set()
-
-        loop = asyncio.get_running_loop()
-        for number in (signal.SIGTERM, signal.SIGINT):
-            loop.add_signal_handler(number, end)
-        await worker.run()
+        ending = Ending(settings.grace)
+        ending.listen()
+        worker = Worker(client, settings.folder, settings.slots, settings.system_properties, ending)
+        return await (worker.run() if settings.once is None else worker.run_once(settings.once))

@@ -337,7 +337,7 @@ export const work = {
       cells: [
         String(one.work), told(one.stepName), one.partition === null ? "" : String(one.partition),
         executionLink(one.executionId), told(one.client), when(one.since), span(one.since, null),
-        one.leaseRemaining === null ? "" : `${Math.round(one.leaseRemaining)} s`,
+        one.leaseRemaining === null ? "" : `${Math.round(one.leaseRemaining)} s${one.draining ? ", draining" : ""}`,
         ...(mayLose ? [button("lose", "Lose", { work: one.work }, "small danger")] : []),
       ],
     }));

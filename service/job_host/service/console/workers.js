@@ -18,8 +18,9 @@ function artifactsOf({ artifacts, client }) {
     element("ul", { class: "metrics" }, artifacts.map((name) => element("li", {}, told(name)))));
 }
 
-// Only the leader hears workers.
-function asks({ waits }) {
+// Only the leader hears workers. One that drains asks no more, and ends what it holds.
+export function asks({ waits, draining, work }) {
+  if (draining) return work.length ? "no, it is draining" : "no, it has drained";
   return waits === null ? "the leader knows" : waits ? "yes" : "no";
 }
 

@@ -24,6 +24,7 @@ class Worker:
     count: int
     heard: Heard
     waits: bool | None
+    is_draining: bool | None
 
 
 @dataclass(frozen=True)
@@ -37,6 +38,11 @@ class WorkersPage:
     @property
     def none_asks(self) -> bool | None:
         return None if self.silence is None else self.silence >= UNASKED_SECONDS
+
+
+def is_draining(keeper: Keeper, client: str | None) -> bool | None:
+    """Whether a client ends what it has, and claims nothing more. Only the leader knows."""
+    return None if keeper.term is None else keeper.term.workers.heard(client or "").is_draining
 
 
 async def workers_page(keeper: Keeper, page: Page, at_least: int) -> WorkersPage:
@@ -56,7 +62,8 @@ async def workers_page(keeper: Keeper, page: Page, at_least: int) -> WorkersPage
     def worker(client: str) -> Worker:
         of = holding.get(client, [])
         heard = Heard() if term is None else term.workers.heard(client)
-        return Worker(client, of[:MOST_HELD], len(of), heard, None if term is None else client in waiting)
+        waits = None if term is None else client in waiting
+        return Worker(client, of[:MOST_HELD], len(of), heard, waits, is_draining(keeper, client))
 
     told = [worker(client) for client in page.of(sorted(known | holding.keys()))]
     return WorkersPage(told, None if term is None else term.desk.silence, seen)

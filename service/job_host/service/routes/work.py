@@ -15,7 +15,7 @@ from job_host.protocol.lines import Members, fingerprint, query, read
 from job_host.protocol.moments import moment
 from job_host.service.http.requests import PAGE_WORDS, Asked, Route, expect_members
 from job_host.service.keepers.keeper import HeldPage
-from job_host.service.keepers.workers import Worker, workers_page
+from job_host.service.keepers.workers import Worker, is_draining, workers_page
 from job_host.service.problems import Problem, bad_request
 from job_host.service.routes import views
 from job_host.service.routes.jobs import answer_of
@@ -108,6 +108,7 @@ async def list_held(asked: Asked) -> web.StreamResponse:
             "client": one.client,
             "since": moment(one.held.since),
             "leaseRemaining": None if one.remaining is None else round(one.remaining, 1),
+            "draining": is_draining(asked.keeper, one.client),
         }
         for one in held
     ]
@@ -131,6 +132,7 @@ def worker(one: Worker) -> dict[str, Any]:
     return {
         "client": one.client,
         "waits": one.waits,
+        "draining": one.is_draining,
         "lastClaim": moment(one.heard.claim),
         "lastSign": moment(one.heard.sign),
         "artifacts": one.heard.artifacts,
@@ -140,6 +142,16 @@ def worker(one: Worker) -> dict[str, Any]:
         ],
         "moreWork": one.count - len(one.held),
     }
+
+
+async def change_worker(asked: Asked) -> web.StreamResponse:
+    """The client drains: it ends what it has, and claims nothing more. If it claims again, it drains no more."""
+    if asked.request.query.get("action") != "drain":
+        raise bad_request("action is drain")
+    expect_members(await asked.body())
+    term = asked.keeper.leading()
+    term.workers.note_draining(asked.named_client())
+    return asked.answer({"draining": True}, term.committed)
 
 
 def held_page(asked: Asked) -> HeldPage:
@@ -193,6 +205,7 @@ async def heartbeat(asked: Asked) -> web.StreamResponse:
 ROUTES = [
     Route("GET", "/batch/work", "read", list_held, ("withJobs", *HELD_WORDS, *PAGE_WORDS, "atLeast")),
     Route("GET", "/batch/workers", "read", list_workers, (*PAGE_WORDS, "atLeast")),
+    Route("PUT", "/batch/workers", "work", change_worker, ("action",)),
     Route("POST", "/batch/work", "work", claim),
     Route("DELETE", "/batch/work", "work", withdraw),
     Route("PUT", "/batch/work/{id}", "read", change_work, ("action",)),

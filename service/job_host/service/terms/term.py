@@ -140,9 +140,9 @@ class Term(ABC):
         if call.do != "claim":
             return await self._made(call)
         self.desk.note_asked()
-        self.workers.note_claim(call.client)
+        self.workers.note_claim(call.client, not self.desk.is_withdrawn(call))
         kept = await (self.desk.claim(call) if call.wait > 0 else self._made(call))
-        self.workers.note_claim(call.client)
+        self.workers.note_claim(call.client, False)
         return kept
 
     async def _make(self, call: Call, make: Callable[[Call], Awaitable[bytes]]) -> Kept:

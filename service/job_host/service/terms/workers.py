@@ -12,11 +12,15 @@ MOST_WORKERS = 1_000
 
 
 class Heard(NamedTuple):
-    """The moments of a client's last claim, and of its last report or heartbeat; and its artifacts, if it has told them."""
+    """The moments of a client's last claim, and of its last report or heartbeat; and its artifacts, if it has told them.
+
+    It is draining if it has said so since it asked for work: it ends what it has, and claims nothing more.
+    """
 
     claim: int | None = None
     sign: int | None = None
     artifacts: tuple[str, ...] | None = None
+    is_draining: bool = False
 
 
 class Workers:
@@ -26,9 +30,14 @@ class Workers:
         self._most = most
         self._heard: dict[str, Heard] = {}
 
-    def note_claim(self, client: str) -> None:
-        """A client asks for work, or has asked until now."""
-        self._note(client, self.heard(client)._replace(claim=clock()))
+    def note_claim(self, client: str, is_new: bool = True) -> None:
+        """A client asks for work. One that isn't new was asked for until now, or is about to be withdrawn."""
+        heard = self.heard(client)
+        self._note(client, heard._replace(claim=clock(), is_draining=heard.is_draining and not is_new))
+
+    def note_draining(self, client: str) -> None:
+        """A client ends what it has, and claims nothing more."""
+        self._note(client, self.heard(client)._replace(is_draining=True))
 
     def note_sign(self, client: str) -> None:
         """A client has reported of a work item, or renewed its lease."""
