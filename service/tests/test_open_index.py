@@ -65,7 +65,8 @@ class History:
 
     def change(self, execution: int, status: str, **members: Any) -> None:
         self._note(execution)
-        self.told[execution] = {**(self.told.get(execution) or {}), "execution": execution, "status": status, **members}
+        given = {"execution": execution, "status": status, "updated": self.entered, **members}
+        self.told[execution] = {**(self.told.get(execution) or {}), **given}
 
     def purge(self, execution: int) -> None:
         self.entered += 1

@@ -9,8 +9,10 @@ from typing import Any
 from prometheus_client import CollectorRegistry, Counter, Gauge, Histogram, generate_latest
 
 from job_host.protocol.lines import query, read
+from job_host.service.history.backlog import Backlog
 from job_host.service.history.coprocess import CoProcessEnded
 from job_host.service.history.open_index import RESTARTABLE, WAITING
+from job_host.service.keepers.backlog import backlog
 from job_host.service.keepers.keeper import Keeper
 from job_host.service.keepers.open_items import OpenWanted, open_items
 from job_host.service.pages import Page
@@ -18,10 +20,15 @@ from job_host.service.policies.delivery import Counts
 from job_host.service.problems import Problem
 from job_host.service.retention.rounds import Retention
 from job_host.service.settings import HistoryBounds
+from job_host.service.terms import moments
 from job_host.service.terms.calls import SERVICE_SESSION
 from job_host.service.terms.term import Observers
 
 NO_ROWS = Page(0, 0)
+# All work items are of one queue.
+QUEUE = "default"
+READY = "At least so many claims would find work, or a job execution to close. There may be more: docs/SERVICE.md"
+OLDEST = "For at least so many seconds the oldest of what is known to be ready is so, 0 if nothing is"
 COMMIT_BUCKETS = (0.0005, 0.001, 0.002, 0.005, 0.01, 0.02, 0.05, 0.1, 0.2, 0.5, 1, 2, 5, 10)
 
 
@@ -42,6 +49,9 @@ class Metrics:
         self.leads = Gauge("jobhost_leads", "1 if this instance leads", **given)
         self.epoch = Gauge("jobhost_epoch", "The epoch that this instance knows", **given)
         self.held = Gauge("jobhost_work_items_held", "Busy work items", **given)
+        self.ready = Gauge("jobhost_queue_ready_at_least", READY, ["queue"], **given)
+        self.busy = Gauge("jobhost_queue_busy", "Busy work items", ["queue"], **given)
+        self.oldest = Gauge("jobhost_queue_oldest_ready_at_least_seconds", OLDEST, ["queue"], **given)
         self.waiting = Gauge("jobhost_claims_waiting", "Claims that wait for work", **given)
         self.open = Gauge("jobhost_open_job_instances", "Job instances to restart, by batch status", ["status"], **given)
         self.long = Gauge("jobhost_long_job_executions", "Job executions that run much longer than before", **given)
@@ -101,7 +111,8 @@ class Metrics:
         self.set_compaction(keeper)
         self.waiting.set(keeper.term.desk.waiting if keeper.term else 0)
         self.takeover.set(keeper.last_takeover)
-        self.executions.clear()
+        for gauge in (self.executions, self.ready, self.busy, self.oldest):
+            gauge.clear()
         self.held.set(0)
         self.purged.set(0)
         held = len(keeper.engine.held) if keeper.engine else 0
@@ -117,7 +128,15 @@ class Metrics:
             self.executions.labels(status).set(count)
         with suppress(Problem, CoProcessEnded):
             self._set_open((await open_items(keeper, OpenWanted(NO_ROWS))).counts)
+            self._set_backlog(await backlog(keeper))
         return generate_latest(self.registry)
+
+    def _set_backlog(self, found: Backlog) -> None:
+        """What isn't known is left out: to whoever goes by it, 0 would say that there is no work."""
+        self.ready.labels(QUEUE).set(found.ready)
+        self.busy.labels(QUEUE).set(found.busy)
+        age = 0 if found.since is None else max(0, moments.clock() - found.since)
+        self.oldest.labels(QUEUE).set(age / 1000)
 
     def _set_open(self, counts: Mapping[str, int | None]) -> None:
         for status in RESTARTABLE:

@@ -29,6 +29,8 @@ class LastEnded:
 
     def __init__(self, most: int = MOST_ENDED) -> None:
         self._most = most
+        # All that ended after this moment are here.
+        self.forgotten_until = 0
         # By the number of the operation that ended each: no two have one.
         self._heap: list[tuple[int, Ended]] = []
 
@@ -36,7 +38,8 @@ class LastEnded:
         if len(self._heap) < self._most:
             heappush(self._heap, (operation, ended))
         else:
-            heappushpop(self._heap, (operation, ended))
+            _, forgotten = heappushpop(self._heap, (operation, ended))
+            self.forgotten_until = max(self.forgotten_until, forgotten.until)
 
     def in_order(self) -> list[Ended]:
         """By the order of their ends."""

@@ -144,6 +144,7 @@ class Engine:
         self.changes.begin(self.entered)
         for held in base.held:
             self._note_busy(held)
+        self.ended_work.forgotten_until = base.ended.forgotten_until
         for ended in base.ended.in_order():
             self.ended_work.note(ended)
         for ended in base.failed.in_order():

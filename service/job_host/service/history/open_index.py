@@ -41,6 +41,16 @@ class Running(NamedTuple):
     version: int = 1
 
 
+class Unfinished(NamedTuple):
+    """A job execution that isn't finished, with its job as the catalogue has it, and the moment of the last operation on it."""
+
+    execution: int
+    instance: int
+    job: str
+    status: str
+    updated: int
+
+
 class Completed(NamedTuple):
     """When a job execution was COMPLETED, and how many milliseconds it took."""
 
@@ -102,6 +112,7 @@ class OpenIndex:
         self._lists: dict[tuple[str, str], RisingNumbers] = {}
         self._in_list: dict[int, RisingNumbers] = {}
         self._running: dict[int, Running] = {}
+        self._unfinished: dict[int, Unfinished] = {}
         self._past: dict[str, list[Completed]] = {}
         self._turn = asyncio.Lock()
         self._settling: asyncio.Task[None] | None = None
@@ -147,10 +158,13 @@ class OpenIndex:
         if execution in self._in_list:
             self._in_list.pop(execution).remove(execution)
         self._running.pop(execution, None)
+        self._unfinished.pop(execution, None)
         if told is None:
             return
         (job, version), status = self._names.of(told["job"]), told["status"]
         if status in UNFINISHED:
+            place = (execution, told["instance"], told["job"])
+            self._unfinished[execution] = Unfinished(*place, status, told["updated"])
             self._put_unfinished(execution, {**told, "job": job}, version)
         elif status == "COMPLETED":
             self._note_completed(job, execution, told)
@@ -212,6 +226,10 @@ class OpenIndex:
 
     def _longest(self, job: str) -> int | None:
         return max(self.past(job), default=None)
+
+    def unfinished(self) -> list[Unfinished]:
+        """All that aren't finished, busy or not."""
+        return list(self._unfinished.values())
 
     def all_running(self) -> list[Running]:
         """All that have begun, and aren't finished."""

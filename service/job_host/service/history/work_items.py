@@ -30,9 +30,10 @@ class Ended(NamedTuple):
 
 
 class EndedWork:
-    """The last work items that are over, by job execution."""
+    """The last work items that are over, by job execution. All that ended after `forgotten_until` are here."""
 
     def __init__(self, most: int = MOST_ENDED) -> None:
+        self.forgotten_until = 0
         self._most = most
         # Lists: most have one or two, and an empty deque takes more than ten of these.
         self._by_execution: dict[int, list[Ended]] = {}
@@ -48,6 +49,7 @@ class EndedWork:
     def _forget(self, execution: int) -> None:
         """Forgets the first one of a job execution."""
         ended = self._by_execution[execution]
+        self.forgotten_until = max(self.forgotten_until, ended[0].until)
         del ended[0]
         if not ended:
             del self._by_execution[execution]
