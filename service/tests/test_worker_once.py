@@ -13,10 +13,10 @@ from instances import Caller, running, until
 from workers import working
 
 from job_host.commands.command_line import main
-from job_host.protocol.client import Client, Unreachable
+from job_host.protocol.client import Client, Refused, Unreachable
 from job_host.service.settings import ServeSettings
 from job_host.worker import worker as workers
-from job_host.worker.draining import CUT_OFF, DRAINED, NO_WORK
+from job_host.worker.draining import CUT_OFF, DRAINED, NO_WORK, REFUSED
 from job_host.worker.worker import Worker
 
 Make = Callable[..., ServeSettings]
@@ -84,7 +84,7 @@ def test_words_that_say_nothing_are_refused(artifacts: Path, words: list[str], c
 
 
 class Service:
-    """Answers claims in turn: an exception is raised, and none is no answer at all."""
+    """Answers claims in turn: an exception is raised, and none is no answer at all. Before it answers Nothing it waits."""
 
     def __init__(self, answers: list[Any], withdrawn: Any = None) -> None:
         self.answers = answers
@@ -101,6 +101,8 @@ class Service:
         answer = self.answers.pop(0) if method == "POST" else self.withdrawn
         if answer is None:
             await asyncio.Event().wait()
+        if answer is NOTHING:
+            await asyncio.sleep(body["wait"])
         if isinstance(answer, Exception):
             raise answer
         return answer
@@ -122,11 +124,20 @@ async def test_a_job_execution_that_is_only_closed_is_no_work(artifacts: Path) -
     assert await once(Service([{"closed": 1}, NOTHING]), artifacts, 0) == NO_WORK
 
 
+@pytest.mark.parametrize(
+    ("name", "status", "finished"), [("RoleLacksRight", REFUSED, 0), ("BadRequest", DRAINED, 1)], ids=["role", "earlier"]
+)
+async def test_a_claim_that_is_refused_is_no_want_of_work(artifacts: Path, name: str, status: int, finished: int) -> None:
+    """A service of an earlier version, which knows no artifacts, is asked again without them."""
+    service = Service([Refused(403, {"title": name}), dict(CLAIMED)])
+    assert (await once(service, artifacts, 0), service.finished) == (status, finished)
+
+
 async def test_it_waits_for_as_long_as_it_is_told(artifacts: Path, monkeypatch: pytest.MonkeyPatch) -> None:
     monkeypatch.setattr(workers, "CLAIM_SECONDS", 0.1)
-    service = Service([NOTHING] * 1_000)
+    service = Service([NOTHING] * 5)
     assert await once(service, artifacts, 0.25) == NO_WORK
-    assert service.waits[0] == 0.1 and service.waits[-1] < 0.1 and service.waits[-2] > 0
+    assert service.waits[0] == 0.1 and max(service.waits) == 0.1 and service.waits[-1] == 0.0
 
 
 @pytest.mark.parametrize(

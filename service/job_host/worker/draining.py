@@ -13,7 +13,7 @@ from job_host.protocol.client import Refused, Unreachable
 log = logging.getLogger(__name__)
 
 # Exit statuses of `jobhost worker`.
-DRAINED, CUT_OFF, NO_WORK = 0, 3, 4
+DRAINED, REFUSED, CUT_OFF, NO_WORK = 0, 1, 3, 4
 # What is cut off has ended, and was reported or given up, after so many seconds.
 CUT_OFF_SECONDS = 40.0
 # The service is told so often: another instance may lead meanwhile, which doesn't know.

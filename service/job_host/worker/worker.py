@@ -21,7 +21,7 @@ from job_host.protocol.seldom import seldom
 from job_host.worker import artifacts
 from job_host.worker.artifacts import Artifact, Ended, Program
 from job_host.worker.chunks import Chunk
-from job_host.worker.draining import CUT_OFF, DRAINED, NO_WORK, Ending, tell_drain
+from job_host.worker.draining import CUT_OFF, DRAINED, NO_WORK, REFUSED, Ending, tell_drain
 from job_host.worker.environment import WorkFiles, environment, use_of
 from job_host.worker.folder import ArtifactFolder
 from job_host.worker.listeners import Listeners
@@ -164,7 +164,7 @@ class Worker:
         self._folder = ArtifactFolder(folder)
         self._slots = slots
         self._tells_artifacts = True
-        self.is_cut_off = False
+        self.is_cut_off = self._is_refused = False
         self._ending = ending or Ending()
         self.ending, self.hurry = self._ending.told, self._ending.hurry
 
@@ -187,7 +187,9 @@ class Worker:
             await cancel(telling)
         if self.is_cut_off or not is_whole:
             return CUT_OFF
-        return NO_WORK if claimed is None else DRAINED
+        if claimed is None:
+            return REFUSED if self._is_refused else NO_WORK
+        return DRAINED
 
     async def _work(self) -> None:
         running: set[asyncio.Future[Any]] = set()
@@ -218,7 +220,7 @@ class Worker:
             if "work" in claimed:
                 return claimed
             # A job execution that was only closed is no work, and there may be more behind it.
-            if not left and "closed" not in claimed:
+            if not left and not {"closed", "again"} & claimed.keys():
                 return None
         return None
 
@@ -251,12 +253,17 @@ class Worker:
         """Claims a work item. Returns no member `work` if there is none. After the longest time the claim is withdrawn."""
         key = uuid.uuid4().hex
         try:
-            return await self._claim(key, wait, longest) or await self._withdraw(key)
+            claimed = await self._claim(key, wait, longest) or await self._withdraw(key)
+            self._is_refused = False
+            return claimed
         except Refused as refused:
             log.warning("a claim was refused: %s", refused)
+            self._is_refused = True
             # A service of an earlier version knows no such member.
-            self._tells_artifacts = self._tells_artifacts and refused.name != "BadRequest"
+            is_again = self._tells_artifacts and refused.name == "BadRequest"
+            self._tells_artifacts = self._tells_artifacts and not is_again
             await asyncio.sleep(1.0)
+            return {"again": True} if is_again else {}
         except (Lost, Unreachable) as fault:
             log.warning("a claim couldn't be withdrawn, and may have been given a work item: %s", fault)
             self.is_cut_off = True
