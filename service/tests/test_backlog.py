@@ -15,9 +15,11 @@ from instances import Caller, running
 from job_host.commands.program import find_batchctl
 from job_host.protocol.lines import command, compact, read
 from job_host.service.history.backlog import Backlog, backlog_of, widths_in
+from job_host.service.history.base import Base, LastEnded, MadeExecution
 from job_host.service.history.coprocess import CoProcess
 from job_host.service.history.engine import Engine
-from job_host.service.history.work_items import EndedWork
+from job_host.service.history.log_file import Head
+from job_host.service.history.work_items import Ended, EndedWork, Held
 from job_host.service.problems import Problem
 from job_host.service.settings import ServeSettings
 
@@ -177,6 +179,19 @@ async def test_a_restart_has_what_was_not_completed() -> None:
         assert (await made.backlog()).ready == 2 == await made.claims_that_find()
         await made.say("stop", execution=2)
         assert (await made.backlog()).ready == 0 == await made.claims_that_find()
+
+
+async def test_what_a_base_has_forgotten_is_known() -> None:
+    """A log was compacted of which more work items had ended than are told: so partitions of that time don't count."""
+    base = Base(Head(9, 1, 1, 4, 5), [MadeExecution(1, 1, 5)], ended=LastEnded(1))
+    # In a base they stand by their numbers, and not in the order of their ends.
+    for work, operation in ((1, 8), (2, 7), (3, 6)):
+        ended = Ended(Held(work, 1, "print", work, 2, 5 + work), 10 * operation, "COMPLETED", None)
+        base.ended.add(operation, ended)
+    engine = Engine(CoProcess())
+    engine.begin(base)
+    assert [one.held.work for one in engine.ended_work.of(1)] == [1]
+    assert engine.ended_work.forgotten_until == 70 > engine.actions.made_at(1)
 
 
 def test_widths_of_jobs() -> None:
