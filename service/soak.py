@@ -86,6 +86,9 @@ class Parts:
     With a slowness of 2 everything may take twice as long.
     """
 
+    jobs = JOBS
+    executables = {"counted": COUNTED}
+
     def __init__(self, mode: str, folder: Path, slowness: float = 1.0, worker_count: int = WORKERS) -> None:
         self.mode = mode
         self.folder = folder
@@ -113,15 +116,8 @@ class Parts:
         return [service for service in self.services if service not in self.dead]
 
     def prepare(self) -> None:
-        self.artifacts.mkdir()
-        for name in ("begun", "ended", "left", "late"):
-            (self.artifacts / name).touch()
-        for place in range(self.worker_count):
-            artifact = self.folder_of(place) / "counted"
-            artifact.parent.mkdir()
-            artifact.write_text(COUNTED.replace("FOLDER", str(self.artifacts)))
-            artifact.chmod(0o755)
-        self.catalogue.write_text(json.dumps({"jobs": JOBS}))
+        self.prepare_artifacts()
+        self.catalogue.write_text(json.dumps({"jobs": self.jobs}))
         if self.mode != "embedded":
             self.servers.append(PostgresServer.make())
             self.servers[0].start()
@@ -129,31 +125,60 @@ class Parts:
             self.servers.append(self.servers[0].make_standby())
             self.servers[0].replicate_by_one()
         count = 1 if self.mode == "embedded" else 2
-        self.services = [Process(self.folder / f"service-{number}.log", *self._words()) for number in range(count)]
+        self.services = [Process(self.folder / f"service-{number}.log", *self.words()) for number in range(count)]
         for service in self.services:
-            self.proxies.append(Proxy(service.port))
-            service.words[1:2] = [str(SERVICE)]
-            service.words += ["--advertise", self.proxies[-1].url]
+            service.words[1:2] = self.program()
+            service.words += ["--advertise", self.way_to(service)]
             service.start()
-        self.ways += self.proxies
         self.workers = [self.new_worker(place) for place in range(self.worker_count)]
 
-    def _words(self) -> list[str]:
+    def prepare_artifacts(self) -> None:
+        self.artifacts.mkdir()
+        for name in ("begun", "ended", "left", "late"):
+            (self.artifacts / name).touch()
+        for place in range(self.worker_count):
+            self.folder_of(place).mkdir()
+            for name, text in self.executables.items():
+                artifact = self.folder_of(place) / name
+                artifact.write_text(text.replace("FOLDER", str(self.artifacts)))
+                artifact.chmod(0o755)
+
+    def program(self) -> list[str]:
+        """The program of an instance, with the words ahead of those of `jobhost`."""
+        return [str(SERVICE)]
+
+    def words(self) -> list[str]:
+        """The words of an instance, but for its own addresses."""
         words = ["--catalogue", str(self.catalogue), "--batchctl", self.batchctl[0]]
         words += ["--takeover-after", str(TAKEOVER), "--lease", str(LEASE)]
         if self.mode == "embedded":
             return [*words, "--data", str(self.folder / "data")]
         for server in self.servers:
-            self.ways.append(Proxy(server.port))
-            words += ["--postgres", server.dsn.replace(f":{server.port}/", f":{self.ways[-1].port}/")]
+            words += ["--postgres", self.dsn_to(server)]
         return words
+
+    def way_to(self, service: Process) -> str:
+        """The URL at which everybody calls an instance."""
+        self.proxies.append(Proxy(service.port))
+        self.ways.append(self.proxies[-1])
+        return self.proxies[-1].url
+
+    def dsn_to(self, server: PostgresServer) -> str:
+        """By what an instance calls a server."""
+        self.ways.append(Proxy(server.port))
+        return server.dsn.replace(f":{server.port}/", f":{self.ways[-1].port}/")
+
+    @property
+    def urls(self) -> list[str]:
+        """The URLs of all instances."""
+        return [proxy.url for proxy in self.proxies]
 
     def folder_of(self, place: int) -> Path:
         """The folder of a worker's artifacts."""
         return self.folder / f"worker-{place}"
 
     def new_worker(self, place: int) -> WorkerProcess:
-        return WorkerProcess(",".join(proxy.url for proxy in self.proxies), self.folder_of(place), SLOTS)
+        return WorkerProcess(",".join(self.urls), self.folder_of(place), SLOTS)
 
     def lose_store(self) -> None:
         """Takes the SQLite file from a service that is dead. Notes how many operations the log has, which nobody has open."""
@@ -301,13 +326,16 @@ class SoakClient:
 
     async def _ask(self, method: str, path: str, body: Any, key: str | None) -> Answer:
         """Asks once. Long before the caller gives up, what there is to see is written."""
-        url = self._chance.choice(self._parts.proxies).url
-        caller = Caller(url, self._name, seconds=self._parts.answer_seconds)
-        watching = asyncio.create_task(self._watch(f"{self._name}: {method} {url}{path} with the key {key}"))
+        caller = self._caller()
+        watching = asyncio.create_task(self._watch(f"{self._name}: {method} {caller.url}{path} with the key {key}"))
         try:
             return await caller.ask(method, path, body, key)
         finally:
             watching.cancel()
+
+    def _caller(self) -> Caller:
+        """Whoever asks once."""
+        return Caller(self._chance.choice(self._parts.urls), self._name, seconds=self._parts.answer_seconds)
 
     async def _watch(self, called: str) -> None:
         seconds = SLOW_SECONDS * self._parts.slowness

@@ -56,13 +56,18 @@ class Caller:
         """Asks with a body of JSON, or with one that is bytes."""
         given = {**self.headers, **({"Idempotency-Key": key} if key else {}), **headers}
         sent: dict[str, Any] = {"data": body} if isinstance(body, bytes) else {"json": body}
-        timeout = aiohttp.ClientTimeout(total=self.seconds)
-        async with aiohttp.ClientSession(timeout=timeout) as session:
+        sent["timeout"] = aiohttp.ClientTimeout(total=self.seconds)
+        async with self._session() as session:
             async with session.request(method, self.url + path, headers=given, **sent) as response:
                 text = await response.text()
                 operations = response.headers.get("Batch-Operations")
                 told = json.loads(text) if "json" in response.content_type else text
                 return Answer(response.status, told, int(operations) if operations else None)
+
+    @asynccontextmanager
+    async def _session(self) -> AsyncIterator[aiohttp.ClientSession]:
+        async with aiohttp.ClientSession() as session:
+            yield session
 
     async def start(self, job: str = "nightly", key: str | None = None, **parameters: str) -> Answer:
         body = {"jobName": job, "jobParameters": parameters}
@@ -95,6 +100,18 @@ class Caller:
 
     async def status(self, execution: int) -> str:
         return str((await self.ask("GET", f"/batch/jobexecutions/{execution}")).told["batchStatus"])
+
+
+class KeptCaller(Caller):
+    """Calls a service by connections that many callers share, and that are kept between their calls."""
+
+    def __init__(self, session: aiohttp.ClientSession, *given: Any, **more: Any) -> None:
+        super().__init__(*given, **more)
+        self._shared = session
+
+    @asynccontextmanager
+    async def _session(self) -> AsyncIterator[aiohttp.ClientSession]:
+        yield self._shared
 
 
 async def until(condition: Any, seconds: float = READY_SECONDS, longest: float = 0.1) -> None:
