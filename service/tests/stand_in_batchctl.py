@@ -161,7 +161,7 @@ class Repository:
         if kind == "chunk":
             mark = self.checkpoints.get((row["instance"], element["id"], partition or 0))
             chunk = {name: value["ref"] if "ref" in value else value for name, value in element["chunk"].items() if value != 2}
-            return {**work, **chunk, "item-count": element["chunk"]["item-count"], "checkpoint": mark}
+            return {**work, "processor": None, **chunk, "item-count": element["chunk"]["item-count"], "checkpoint": mark}
         return {**work, "ref": element["ref"] if kind == "decision" else element["batchlet"]["ref"]}
 
     def held(self, line: Told) -> Told:
