@@ -181,6 +181,8 @@ def check_call(call: Acknowledged, operation: Operation) -> None:
         "execution", call.told.get("executionId")
     ):
         raise Wrong(f"{call} is in the history as number {operation.number} with the reply {reply}")
+    if call.told.get("work") != reply.get("work"):
+        raise Wrong(f"{call} was handed a work item, and in the history the reply is {reply}")
 
 
 def check_beside(replayed: Replayed) -> None:
@@ -208,9 +210,16 @@ def finishes(operations: Sequence[Operation]) -> Iterator[dict[str, Any]]:
             yield line
 
 
+def chunks_of(operations: Sequence[Operation]) -> set[int]:
+    """The work items that are chunks."""
+    return {json.loads(one.reply)["work"]["work"] for one in operations if b'"kind":"chunk"' in one.reply}
+
+
 def unstarted(operations: Sequence[Operation]) -> list[int]:
-    """The work items whose artifact couldn't be started: they are FAILED without an exit status."""
-    return [line["work"] for line in finishes(operations) if line["outcome"] == "FAILED" and line.get("exit") is None]
+    """The work items whose artifact couldn't be started: they are FAILED without an exit status, and no chunks."""
+    failed = [line for line in finishes(operations) if line["outcome"] == "FAILED" and line.get("exit") is None]
+    chunks = chunks_of(operations) if failed else set[int]()
+    return [line["work"] for line in failed if line["work"] not in chunks]
 
 
 def check_artifacts(operations: Sequence[Operation], folder: Path, lost: Lost) -> None:
@@ -228,7 +237,7 @@ def check_artifacts(operations: Sequence[Operation], folder: Path, lost: Lost) -
     missing = unstarted(operations)
     if len(missing) > lost.starts:
         raise Wrong(f"the artifacts of the work items {missing} weren't started, and only {lost.starts} may not have been")
-    chunks = {json.loads(one.reply)["work"]["work"] for one in operations if b'"kind":"chunk"' in one.reply}
+    chunks = chunks_of(operations)
     for line in finishes(operations):
         if line["outcome"] == "COMPLETED" and line["work"] not in chunks and ended[str(line["work"])] != 1:
             raise Wrong(
