@@ -4,7 +4,7 @@
     service/soak_nights.py embedded --nights 30 --kills 200     one instance over batchctl's log
     service/soak_nights.py postgres --nights 30 --kills 200     two instances over one PostgreSQL server
 
-A night has so many job executions: of 5 batchlets, 11 operations each, and each fifth one of a chunk that fails behind one of
+A night has so many job executions: of 5 batchlets, 11 operations each, and each fourth one of a chunk that fails behind one of
 its checkpoints. Clients that are simulated claim and report beside worker processes. By the services' clock each night lies on
 a day of its own. In its small hours `--keep-days` purges the nights that aren't kept, while some of its job executions still
 run, and at noon `--compact-at` compacts the history. What failed is restarted, but for the chunks of the first night: these are
@@ -135,7 +135,7 @@ class Nights:
             await self.parts.until_ready()
             if self.parts.mode == "postgres":
                 self.parts.servers[0].sql(KEEP_OPERATIONS)
-            print(HEADER)
+            print(HEADER, flush=True)
             async with asyncio.TaskGroup() as group:
                 gathering = group.create_task(self.pieces.watch())
                 for one in (*self._hands, self._mender):
@@ -219,7 +219,7 @@ class Nights:
         if last is not None:
             await self.harm.at_compaction(last)
         self.bases.append(await self._until_compact(is_due=last is None))
-        turns = self.plan.turns if night in (compared_night(self.plan.kept), self.plan.nights) else 1
+        turns = self.plan.turns if night in (compared_night(self.plan.kept), self.plan.nights) else min(1, self.plan.turns - 1)
         self.states.append(await self._measured(night, turns))
         print(self.states[-1], flush=True)
 
@@ -250,8 +250,8 @@ class Nights:
         return None
 
     async def _measured(self, night: int, turns: int) -> State:
-        """The quickest of some starts over the base."""
-        seconds = [await self._restarted() for _ in range(turns)]
+        """The quickest of some starts over the base. Without one there are no seconds."""
+        seconds = [await self._restarted() for _ in range(turns)] or [0.0]
         base = (await self._reader.get("/batch/history"))["base"]
         size, all_size = self._sizes()
         return State(night, base["operations"], base["rows"], size, all_size, min(seconds))

@@ -18,8 +18,8 @@ from soak_check import Acknowledged, Read, Seen, Wrong  # noqa: E402
 from soak_nights_parts import NightParts  # noqa: E402
 
 GROUPS = 6
-# Each fifth job execution is of a chunk.
-CHUNKS = 5
+# Each fourth job execution is of a chunk.
+CHUNKS = 4
 # Request keys are known for seven days.
 NIGHTS_OF_KEYS = 5
 PAGE = 1_000
@@ -67,6 +67,10 @@ class NightClient(SoakClient):
         if answer.status != 200:
             raise Wrong(f"{path} is answered {answer}")
         return answer.told
+
+    async def items(self, execution: int) -> Any:
+        """The work items of a job execution."""
+        return await self.get(f"/batch/jobexecutions/{execution}/workitems?pageSize={PAGE}&atLeast={self._least}")
 
 
 class Starter(NightClient):
@@ -170,7 +174,12 @@ class Hand(NightClient):
 
 
 class Mender(NightClient):
-    """Restarts what is FAILED, but for the chunks of the first night until they may go on."""
+    """Restarts what is FAILED, but for the chunks of the first night that failed by themselves: until they may go on."""
+
+    def __init__(self, *given: Any) -> None:
+        super().__init__(*given)
+        # Job executions of the first night that wait.
+        self._waiting: set[int] = set()
 
     async def run(self) -> None:
         while not self._ending.is_set():
@@ -180,14 +189,20 @@ class Mender(NightClient):
     async def mend(self) -> int:
         """Returns how many were to be restarted."""
         told = await self.get(f"/batch/jobexecutions?status=FAILED&mostRecent=true&pageSize={PAGE}")
-        found = [one for one in told["jobExecutions"] if not self._waits(one)]
-        for one in found:
-            await self.restart(one["executionId"])
+        found = [one["executionId"] for one in told["jobExecutions"] if not await self._waits(one)]
+        for execution in found:
+            await self.restart(execution)
         return len(found)
 
-    def _waits(self, one: Any) -> bool:
-        is_first = self._nights.night == 1 and one["jobName"] == "rows"
-        return is_first or one["instanceId"] in self._nights.kept_back
+    async def _waits(self, one: Any) -> bool:
+        """Whether it waits for the end of the last night. One whose worker was lost doesn't: it may have no checkpoint."""
+        if self._nights.night > 1 or one["jobName"] != "rows":
+            return one["instanceId"] in self._nights.kept_back
+        if one["executionId"] not in self._waiting:
+            if (await self.items(one["executionId"]))[-1]["outcome"] == "LOST":
+                return False
+            self._waiting.add(one["executionId"])
+        return True
 
     async def restart(self, execution: int) -> None:
         path = f"/batch/jobexecutions/{execution}?action=restart"
@@ -205,10 +220,6 @@ class Reader(NightClient):
         """Reads a job execution, which is compared at the end."""
         await self._read_execution(execution)
         return self._seen.reads[-1]
-
-    async def items(self, execution: int) -> Any:
-        """The work items of a job execution."""
-        return await self.get(f"/batch/jobexecutions/{execution}/workitems?pageSize={PAGE}&atLeast={self._least}")
 
 
 def acknowledged(client: str, key: str, do: str, members: dict[str, Any], answer: Answer) -> Acknowledged:

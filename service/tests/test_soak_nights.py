@@ -32,7 +32,7 @@ from job_host.catalogue.jobs import read_file
 from job_host.service.history.log_file import LogRecord
 
 # As many kills as there are kinds: each comes once. More job executions take the processor from the other tests.
-NIGHTS, JOB_EXECUTIONS, KEPT, SLOWNESS = 3, 5, 1, 3.0
+NIGHTS, JOB_EXECUTIONS, KEPT, SLOWNESS = 3, 8, 1, 3.0
 
 
 @dataclass(frozen=True)
