@@ -219,7 +219,8 @@ class Nights:
         if last is not None:
             await self.harm.at_compaction(last)
         self.bases.append(await self._until_compact(is_due=last is None))
-        turns = self.plan.turns if night in (compared_night(self.plan.kept), self.plan.nights) else min(1, self.plan.turns - 1)
+        is_compared = night in (compared_night(self.plan.kept), self.plan.nights)
+        turns = self.plan.turns if is_compared else int(self.plan.turns > 1)
         self.states.append(await self._measured(night, turns))
         print(self.states[-1], flush=True)
 

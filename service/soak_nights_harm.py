@@ -62,7 +62,7 @@ class Plan:
     kept: int
     seed: int
     hands: int = 6
-    # Of so many starts behind the nights that are compared the quickest one counts. If it is one, there is none behind others.
+    # Of so many starts behind the nights that are compared the quickest one counts. With 2 or more each night has one.
     turns: int = 3
 
     def kills_by_night(self, mode: str, chance: random.Random) -> list[list[Kill]]:

@@ -53,12 +53,12 @@ class Soaked:
         return max(numbers) - 1
 
 
-def soaked(mode: str, folder: Path, batchctl: tuple[str, ...]) -> Soaked:
+def soaked(mode: str, folder: Path, batchctl: tuple[str, ...], turns: int) -> Soaked:
     folder.mkdir(exist_ok=True)
     parts = NightParts(mode, folder, SLOWNESS, 1, KEPT)
     parts.batchctl = batchctl
     try:
-        done = Nights(parts, Plan(NIGHTS, JOB_EXECUTIONS, len(KINDS[mode]), KEPT, 7, hands=3, turns=1))
+        done = Nights(parts, Plan(NIGHTS, JOB_EXECUTIONS, len(KINDS[mode]), KEPT, 7, hands=3, turns=turns))
         parts.prepare()
         asyncio.run(done.run())
         assert sorted(done.harm.faults.made.elements()) == sorted(KINDS[mode])
@@ -75,7 +75,7 @@ def soaked(mode: str, folder: Path, batchctl: tuple[str, ...]) -> Soaked:
 
 @pytest.fixture(scope="module")
 def nights(tmp_path_factory: pytest.TempPathFactory, one_compactor: tuple[str, ...]) -> Soaked:
-    return soaked("embedded", tmp_path_factory.mktemp("nights"), one_compactor)
+    return soaked("embedded", tmp_path_factory.mktemp("nights"), one_compactor, 1)
 
 
 def test_nights_over_a_log_lose_nothing(nights: Soaked) -> None:
@@ -85,7 +85,7 @@ def test_nights_over_a_log_lose_nothing(nights: Soaked) -> None:
 
 @pytest.mark.postgres
 def test_nights_over_postgres_lose_nothing(tmp_path: Path, one_compactor: tuple[str, ...]) -> None:
-    assert soaked("postgres", tmp_path / "nights", one_compactor).done.bases
+    assert soaked("postgres", tmp_path / "nights", one_compactor, 0).done.bases
 
 
 def renumbered(operations: Sequence[Operation]) -> list[Operation]:
