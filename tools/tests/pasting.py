@@ -74,7 +74,7 @@ DEBIAN = [Path("/usr/bin"), Path("/bin"), Path("/usr/sbin"), Path("/sbin")]
 OURS = {"batchctl", "jobhost"}
 PORT = 8570
 PORT_SECONDS = 60.0
-MOST_SECONDS = 100.0
+MOST_SECONDS = 300.0
 NOBODY = "nobody"
 # Runs the words after these with no network but a loopback of its own; for root, and for others.
 LOOPBACK = ["--net", "--", "sh", "-c", 'ip link set lo up && exec "$@"', "sh"]
