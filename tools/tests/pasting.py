@@ -50,6 +50,7 @@ INSTEAD = {
     "service/install.sh --development": 'cd "$OLDPWD" && service/install.sh --development',
     "benches/service_calls.py": "benches/service_calls.py --help > /dev/null",
     "benches/waiting_slots.py": "benches/waiting_slots.py --help > /dev/null",
+    "benches/fleet.py": "benches/fleet.py --help > /dev/null",
     "service/check_catalogues.py": "service/check_catalogues.py --help > /dev/null",
     "service/soak.py postgres --kills 200": "service/soak.py --help > /dev/null",
     "service/soak.py standby --kills 20": ":",
