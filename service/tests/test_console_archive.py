@@ -58,6 +58,7 @@ def test_what_was_purged_is_found_and_shown(browser: Browser, embedded: Callable
         assert not browser.all("main button[data-action]")
         # One of another history, with many logs.
         browser.open(f"{service.url}/#/executions?search=of%20old")
+        browser.see("wide", ARCHIVE)
         browser.all(f"{ARCHIVE} a[href='#/execution/1?history=old']")[0].click()
         browser.see("page 1 of each list")
         browser.see("work item 50", "section[data-key=Logs]")
