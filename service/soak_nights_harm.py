@@ -88,6 +88,8 @@ class Harm:
         # How long a compaction takes.
         self._usual = 0.3
         self._connection: Any = None
+        # Faults come one after the other, also if a purge and the load want one at once.
+        self._turn = asyncio.Lock()
 
     async def at_any_time(self, one: Kill) -> None:
         """A kill of the load: now, or while a compaction runs that is asked for."""
@@ -128,12 +130,13 @@ class Harm:
         return False
 
     async def _kill(self, name: str, aimed: Process | None) -> None:
-        self.moments[await self._under_way(aimed)] += 1
-        self._parts.aimed = aimed
-        try:
-            await self.faults.make(name)
-        finally:
-            self._parts.aimed = None
+        async with self._turn:
+            self.moments[await self._under_way(aimed)] += 1
+            self._parts.aimed = aimed
+            try:
+                await self.faults.make(name)
+            finally:
+                self._parts.aimed = None
 
     async def _until_compacting(self) -> Process | None:
         """The leader, after it has begun to compact. None if it doesn't soon, as nothing is to be compacted."""

@@ -8,6 +8,7 @@ import signal
 import sqlite3
 import threading
 from collections.abc import Callable
+from concurrent.futures import ThreadPoolExecutor
 from pathlib import Path
 from typing import Any, cast
 
@@ -18,9 +19,11 @@ from instances import Caller, Process, running, until
 from job_host.service.history import log_file
 from job_host.service.history.tags import read_tag
 from job_host.service.keepers.embedded import LOG_NAME
-from job_host.service.keepers.embedded_term import EmbeddedTerm
+from job_host.service.keepers.embedded_term import Beside, EmbeddedTerm
 from job_host.service.keepers.keeper import Fatal
+from job_host.service.problems import Problem
 from job_host.service.settings import ServeSettings
+from job_host.service.stores.sqlite import SqliteStore
 
 Make = Callable[..., ServeSettings]
 
@@ -34,6 +37,15 @@ async def test_an_operation_is_in_the_log_when_it_is_answered(embedded: Make) ->
     assert [json.loads(record.line).get("do") for record in records] == [None, "start"]
     tag = read_tag(records[1].tag)
     assert tag is not None and (tag.client, tag.key, tag.is_once) == ("tester", "a", False) and len(tag.fingerprint) == 32
+
+
+async def test_a_call_behind_the_end_of_its_term_is_unavailable() -> None:
+    """A call that a term began with may come to the store after the term's end, as batchctl was killed."""
+    thread = ThreadPoolExecutor(1)
+    thread.shutdown()
+    with pytest.raises(Problem) as told:
+        await Beside(cast(SqliteStore, None), thread).do(lambda store: None)
+    assert (told.value.name, told.value.status) == ("StoreLost", 503)
 
 
 async def test_the_history_goes_on_after_a_kill(embedded: Make, tmp_path: Path) -> None:

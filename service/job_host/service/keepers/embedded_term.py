@@ -27,9 +27,13 @@ class Beside:
         self._thread = thread
 
     async def do(self, call: Callable[[SqliteStore], T]) -> T:
-        """Calls it in its thread. Raises a problem if the disk fails."""
+        """Calls it in its thread. Raises a problem if the disk fails, or the term is over."""
         try:
-            return await asyncio.get_running_loop().run_in_executor(self._thread, lambda: call(self._store))
+            done = asyncio.get_running_loop().run_in_executor(self._thread, lambda: call(self._store))
+        except RuntimeError as ended:
+            raise unavailable("StoreLost", "the term is over, and its thread with it") from ended
+        try:
+            return await done
         except sqlite3.Error as fault:
             raise unavailable("StoreLost", f"{type(fault).__name__}: {fault}") from fault
 
