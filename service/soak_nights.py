@@ -165,6 +165,9 @@ class Nights:
             await self.harm.while_purging(one)
         await asyncio.gather(harming, late)
         await self._until_over()
+        if night == 1:
+            # One whose worker was lost at the last moment has gone on, and was COMPLETED.
+            self.parts.kept_back &= await self._each_failed()
         await self._until_purged(night)
         self.compared["starts that say once, asked again"] += await self._once.ask()
         await self._noon(night, last)
@@ -184,6 +187,11 @@ class Nights:
             await until_quiet(self.parts)
             if await self._mender.mend() == 0:
                 return
+
+    async def _each_failed(self) -> set[int]:
+        """The job instances whose newest job execution is FAILED."""
+        told = await self._reader.get(f"/batch/jobexecutions?status=FAILED&mostRecent=true&pageSize={PAGE}")
+        return {one["instanceId"] for one in told["jobExecutions"]}
 
     async def _each_newest(self) -> set[int]:
         """The job instances that the service tells."""
