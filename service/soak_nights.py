@@ -190,14 +190,14 @@ class Nights:
 
     async def _each_failed(self) -> set[int]:
         """The job instances whose newest job execution is FAILED."""
-        told = await self._reader.get(f"/batch/jobexecutions?status=FAILED&mostRecent=true&pageSize={PAGE}")
+        told = await self._reader.get_all(f"/batch/jobexecutions?status=FAILED&mostRecent=true&pageSize={PAGE}")
         return {one["instanceId"] for one in told["jobExecutions"]}
 
     async def _each_newest(self) -> set[int]:
         """The job instances that the service tells."""
         found: set[int] = set()
         for page in range(1_000):
-            told = await self._reader.get(f"/batch/jobexecutions?mostRecent=true&page={page}&pageSize={PAGE}")
+            told = await self._reader.get_all(f"/batch/jobexecutions?mostRecent=true&page={page}&pageSize={PAGE}")
             found |= {one["instanceId"] for one in told["jobExecutions"]}
             if not told["more"]:
                 break
@@ -301,10 +301,10 @@ class Nights:
         self.waiting, self.parts.kept_back = sorted(self.parts.kept_back), set()
         await self._until_over()
         await self._restarted()
-        newest = (await self._reader.get("/batch/jobexecutions?pageSize=1"))["jobExecutions"][0]["executionId"]
+        newest = (await self._reader.get_all("/batch/jobexecutions?pageSize=1"))["jobExecutions"][0]["executionId"]
         reads = [await self._reader.read(execution) for execution in range(1, newest + 1)]
         items = {read.execution: await self._reader.items(read.execution) for read in reads if read.status == 200}
-        self.told = Told(reads, items, (await self._reader.get("/batch/jobs"))["statusCounts"])
+        self.told = Told(reads, items, (await self._reader.get_all("/batch/jobs"))["statusCounts"])
 
 
 async def operations_of(parts: NightParts, done: Nights) -> list[Operation]:

@@ -59,6 +59,7 @@ class NightClient(SoakClient):
             raise
         if answer.status == 503:
             self._url = None
+        self._nights.told = max(self._nights.told, answer.operations or 0)
         return answer
 
     async def get(self, path: str) -> Any:
@@ -68,9 +69,13 @@ class NightClient(SoakClient):
             raise Wrong(f"{path} is answered {answer}")
         return answer.told
 
+    async def get_all(self, path: str) -> Any:
+        """What an instance tells that knows all that anybody was told. A follower may lag."""
+        return await self.get(f"{path}{'&' if '?' in path else '?'}atLeast={self._nights.told}")
+
     async def items(self, execution: int) -> Any:
         """The work items of a job execution."""
-        return await self.get(f"/batch/jobexecutions/{execution}/workitems?pageSize={PAGE}&atLeast={self._least}")
+        return await self.get_all(f"/batch/jobexecutions/{execution}/workitems?pageSize={PAGE}")
 
 
 class Starter(NightClient):
@@ -188,7 +193,7 @@ class Mender(NightClient):
 
     async def mend(self) -> int:
         """Returns how many were to be restarted."""
-        told = await self.get(f"/batch/jobexecutions?status=FAILED&mostRecent=true&pageSize={PAGE}")
+        told = await self.get_all(f"/batch/jobexecutions?status=FAILED&mostRecent=true&pageSize={PAGE}")
         found = [one["executionId"] for one in told["jobExecutions"] if not await self._waits(one)]
         for execution in found:
             await self.restart(execution)

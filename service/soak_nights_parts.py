@@ -116,6 +116,8 @@ class NightParts(Parts):
         self.kept = kept
         self.orders = Orders(folder / "orders")
         self.night = 1
+        # How many operations there were by what clients were told.
+        self.told = 0
         # Job executions that clients start, one after the other.
         self.places = count()
         # The job instances of each night that clients were told of, and those that are restarted behind the last night.

@@ -83,11 +83,6 @@ def test_nights_over_a_log_lose_nothing(nights: Soaked) -> None:
     assert len(nights.done.states) == NIGHTS and walk.purged and walk.resumed
 
 
-@pytest.mark.postgres
-def test_nights_over_postgres_lose_nothing(tmp_path: Path, one_compactor: tuple[str, ...]) -> None:
-    assert soaked("postgres", tmp_path / "nights", one_compactor, 0).done.bases
-
-
 def renumbered(operations: Sequence[Operation]) -> list[Operation]:
     return [replace(one, number=number) for number, one in enumerate(operations, 1)]
 
