@@ -21,7 +21,6 @@ import sys
 import tempfile
 import time
 import uuid
-from collections.abc import Iterator
 from pathlib import Path
 from typing import Any, NamedTuple
 
@@ -32,7 +31,7 @@ sys.path.insert(0, str(SERVICE))
 sys.path.insert(0, str(SERVICE / "tests"))
 
 from instances import Caller, Process, until  # noqa: E402
-from postgres_server import PostgresServer  # noqa: E402
+from postgres_server import PostgresServer, children_of  # noqa: E402
 
 from job_host.commands.program import find_batchctl  # noqa: E402
 from job_host.service.http.descriptors import raise_limit  # noqa: E402
@@ -58,12 +57,6 @@ def usage_of(processes: list[int]) -> Usage:
     ticks = sum(int(stat[11]) + int(stat[12]) for stat in stats)
     pages = sum(int(stat[21]) for stat in stats)
     return Usage(ticks / TICKS, pages * os.sysconf("SC_PAGE_SIZE") / 2**20)
-
-
-def children_of(process: int) -> Iterator[int]:
-    """The processes that a process has started: of the service that is batchctl."""
-    for task in Path(f"/proc/{process}/task").iterdir():
-        yield from map(int, (task / "children").read_text().split())
 
 
 class Fleet:
