@@ -13,8 +13,9 @@ counts the job instances, and the last job execution is asked for. The first job
 behind the last night it is restarted from its last checkpoint.
 
 Printed for some nights, and compared at the end with the first night from which on nights were purged: the bytes of the
-compacted log, and seconds of processor time and peak memory of an opening with a compaction and of one without. Neither has a
-line, and the quickest of three counts. With `--replies` neither seconds nor memory are compared, as in the gate.
+compacted log but for the digits in its lines, of which numbers have more as years go by, and seconds of processor time and peak
+memory of an opening with a compaction and of one without. Neither has a line, and the quickest of some counts. With `--replies`
+neither seconds nor memory are compared, as in the gate.
 
 The log stands in DIR, else in the folder of temporary files. One log is kept at a time, with room for its compacted copy.
 """
@@ -38,10 +39,11 @@ CHECKPOINTS = 25
 OPERATIONS = CHECKPOINTS + 3
 # Each hundredth night is told, and those after which nothing should grow any more.
 TOLD = 100
-TURNS = 3
+TURNS = 5
+# What stands before the line of a record.
+FRAME_BYTES = 51
+DIGITS = b"0123456789"
 # What may differ, by the first night from which on nights are purged.
-# Of few nights, the numbers of operations get a digit more.
-MOST_BYTES_OF_FEW = 0.05
 MOST_BYTES, MOST_SECONDS, MOST_MEMORY, MOST_OPENINGS = 0.02, 0.05, 0.05, 2.5
 
 
@@ -59,22 +61,30 @@ class Measured:
 
 @dataclass(frozen=True)
 class State:
-    """A log behind a night: its bytes when it is compacted, and the openings with and without a compaction."""
+    """A log behind a night: its bytes when it is compacted, all and but for digits, and the openings with and without a compaction."""
 
     night: int
     size: int
+    undigited: int
     compaction: Measured
     opening: Measured
 
     def __str__(self) -> str:
         mib = self.size / 2**20
         return (
-            f"{self.night:6} {mib:9.1f} {self.compaction.seconds:9.2f} {self.compaction.memory / 1024:9.0f}"
+            f"{self.night:6} {mib:9.1f} {self.undigited / 2**20:9.1f}"
+            f" {self.compaction.seconds:9.2f} {self.compaction.memory / 1024:9.0f}"
             f" {self.opening.seconds:9.2f} {self.opening.memory / 1024:9.0f}"
         )
 
 
-HEADER = " night       MiB  compacts       MiB     opens       MiB"
+HEADER = " night       MiB no digits  compacts       MiB     opens       MiB"
+
+
+def undigited(path: Path) -> int:
+    """The bytes of a log but for the digits in its records' lines."""
+    with path.open("rb") as file:
+        return sum(min(FRAME_BYTES, len(record)) + len(record[FRAME_BYTES:].translate(None, DIGITS)) for record in file)
 
 
 class Log:
@@ -102,7 +112,7 @@ class Log:
 
     def state(self, night: int) -> State:
         compaction = self.quickest("--compact")
-        return State(night, self.path.stat().st_size, compaction, self.quickest())
+        return State(night, self.path.stat().st_size, undigited(self.path), compaction, self.quickest())
 
 
 # The lines of a job execution and the replies to them, in which its number stands in place of %(n)d, and moments of %(at)d.
@@ -200,9 +210,9 @@ def growth(what: str, before: float, now: float, most: float) -> list[str]:
 
 def compare(first: State, last: State, replies: bool) -> list[str]:
     """What has grown from one night to another by more than it may."""
+    grown = growth("bytes but for digits", first.undigited, last.undigited, MOST_BYTES)
     if replies:
-        return growth("bytes", first.size, last.size, MOST_BYTES_OF_FEW)
-    grown = growth("bytes", first.size, last.size, MOST_BYTES)
+        return grown
     grown += growth("seconds of an opening", first.opening.seconds, last.opening.seconds, MOST_SECONDS)
     grown += growth("memory of an opening", first.opening.memory, last.opening.memory, MOST_MEMORY)
     openings = last.compaction.seconds / last.opening.seconds
