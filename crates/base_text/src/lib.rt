@@ -19,4 +19,4 @@ mod written;
 pub use fault::{BaseLineFault, BaseTextFault};
 pub use head::BaseHead;
 pub use line::{BaseLine, read_base_line};
-pub use texts::{checkpoint_text, execution_text, head_text, work_text};
+pub use texts::{WrittenLine, checkpoint_line, execution_line, head_text, work_line};

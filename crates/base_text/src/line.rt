@@ -71,12 +71,16 @@ pub fn read_base_line(alloc: Global, line: &[u8]) -> Result<BaseLine, BaseLineFa
     }
 }
 
-/// Reads the line of a text, in one pass if it is no job execution.
+/// Reads the line of a text. The plan of a job execution needs a tree, so a text that begins as one
+/// is written is read as a tree at once.
 fn line_of_text(alloc: Global, text: &str) -> Result<BaseLine, BaseLineFault>
     ensures read { IfOk result (λ line. line_in_read (read text.now) ≡ Some line) }
     ensures wrong { result ≡ Err BaseLineFault.NotABaseLine
         → line_in_read (read text.now) ≡ None }
 {
+    if text.starts_with("{\"create\"") || text.starts_with("{\"abandoned\"") {
+        return line_of_tree(alloc, text);
+    }
     let mut scratch = Scratch::new(alloc);
     let flat = read_flat(alloc, text, &mut scratch);
     match &flat {

@@ -13,6 +13,15 @@ use batch_ids::OutOfMemory;
 use json::Writer;
 use std::alloc::Global;
 
+/// The line of a row, without a line feed, and the row that was read back from it.
+#[derive(Debug, Drop)]
+pub struct WrittenLine {
+    /// The bytes of the line.
+    pub text: Vec<u8>,
+    /// The row.
+    pub row: BaseLine,
+}
+
 /// Writes the first line of a base, without a line feed, by the format of `read_base_line`.
 ///
 /// # Errors
@@ -24,10 +33,9 @@ pub fn head_text(alloc: Global, head: &BaseHead) -> Result<Vec<u8>, BaseTextFaul
 {
     let mut out = new_line(alloc)?;
     write_head(&mut out, head)?;
-    let text = out.into_inner();
-    let line = read_back(alloc, text.as_slice())?;
-    if is_head(&line, head) {
-        Ok(text)
+    let line = read_back(alloc, out.into_inner())?;
+    if is_head(&line.row, head) {
+        Ok(line.text)
     } else {
         Err(BaseTextFault::NotReadBack)
     }
@@ -39,15 +47,15 @@ pub fn head_text(alloc: Global, head: &BaseHead) -> Result<Vec<u8>, BaseTextFaul
 ///
 /// - `NotReadBack` if the line isn't read back as this row, which is a fault of this crate.
 /// - `OutOfMemory` if memory is refused.
-pub fn execution_text(alloc: Global, row: &ExecutionRow) -> Result<Vec<u8>, BaseTextFault>
-    ensures { IfOk result (λ text. base_line_of text.items ≡ Some (BaseLine.Execution row.now)) }
+pub fn execution_line(alloc: Global, row: &ExecutionRow) -> Result<WrittenLine, BaseTextFault>
+    ensures line { IfOk result (λ line. base_line_of line.text.items ≡ Some line.row) }
+    ensures row { IfOk result (λ line. line.row ≡ BaseLine.Execution row.now) }
 {
     let mut out = new_line(alloc)?;
     write_execution(&mut out, row)?;
-    let text = out.into_inner();
-    let line = read_back(alloc, text.as_slice())?;
-    if is_execution(&line, row) {
-        Ok(text)
+    let line = read_back(alloc, out.into_inner())?;
+    if is_execution(&line.row, row) {
+        Ok(line)
     } else {
         Err(BaseTextFault::NotReadBack)
     }
@@ -61,15 +69,15 @@ pub fn execution_text(alloc: Global, row: &ExecutionRow) -> Result<Vec<u8>, Base
 ///   there though it is busy, or missing though it is over. No history has such a row. In any other
 ///   case it is a fault of this crate.
 /// - `OutOfMemory` if memory is refused.
-pub fn work_text(alloc: Global, row: &WorkRow) -> Result<Vec<u8>, BaseTextFault>
-    ensures { IfOk result (λ text. base_line_of text.items ≡ Some (BaseLine.Work row.now)) }
+pub fn work_line(alloc: Global, row: &WorkRow) -> Result<WrittenLine, BaseTextFault>
+    ensures line { IfOk result (λ line. base_line_of line.text.items ≡ Some line.row) }
+    ensures row { IfOk result (λ line. line.row ≡ BaseLine.Work row.now) }
 {
     let mut out = new_line(alloc)?;
     write_work(&mut out, row)?;
-    let text = out.into_inner();
-    let line = read_back(alloc, text.as_slice())?;
-    if is_work(&line, row) {
-        Ok(text)
+    let line = read_back(alloc, out.into_inner())?;
+    if is_work(&line.row, row) {
+        Ok(line)
     } else {
         Err(BaseTextFault::NotReadBack)
     }
@@ -81,15 +89,15 @@ pub fn work_text(alloc: Global, row: &WorkRow) -> Result<Vec<u8>, BaseTextFault>
 ///
 /// - `NotReadBack` if the line isn't read back as this row, which is a fault of this crate.
 /// - `OutOfMemory` if memory is refused.
-pub fn checkpoint_text(alloc: Global, row: &CheckpointRow) -> Result<Vec<u8>, BaseTextFault>
-    ensures { IfOk result (λ text. base_line_of text.items ≡ Some (BaseLine.Checkpoint row.now)) }
+pub fn checkpoint_line(alloc: Global, row: &CheckpointRow) -> Result<WrittenLine, BaseTextFault>
+    ensures line { IfOk result (λ line. base_line_of line.text.items ≡ Some line.row) }
+    ensures row { IfOk result (λ line. line.row ≡ BaseLine.Checkpoint row.now) }
 {
     let mut out = new_line(alloc)?;
     write_checkpoint(&mut out, row)?;
-    let text = out.into_inner();
-    let line = read_back(alloc, text.as_slice())?;
-    if is_checkpoint(&line, row) {
-        Ok(text)
+    let line = read_back(alloc, out.into_inner())?;
+    if is_checkpoint(&line.row, row) {
+        Ok(line)
     } else {
         Err(BaseTextFault::NotReadBack)
     }
@@ -101,11 +109,11 @@ fn new_line(alloc: Global) -> Result<Writer, OutOfMemory> {
 }
 
 /// Reads a written line.
-fn read_back(alloc: Global, text: &[u8]) -> Result<BaseLine, BaseTextFault>
-    ensures { IfOk result (λ line. base_line_of text.now ≡ Some line) }
+fn read_back(alloc: Global, text: Vec<u8>) -> Result<WrittenLine, BaseTextFault>
+    ensures { IfOk result (λ line. base_line_of line.text.items ≡ Some line.row) }
 {
-    match read_base_line(alloc, text) {
-        Ok(line) => Ok(line),
+    match read_base_line(alloc, text.as_slice()) {
+        Ok(row) => Ok(WrittenLine { text, row }),
         Err(BaseLineFault::NotABaseLine) => Err(BaseTextFault::NotReadBack),
         Err(BaseLineFault::OutOfMemory) => Err(BaseTextFault::OutOfMemory),
     }

@@ -1,5 +1,5 @@
 -- Rows that are added one after another.
-use Rattle.std.proofs.Common.{◌≡◌, ℕ, List, [], ◌∷◌, ◌++◌, Bool, true, false, length, take, drop, map, slice_index_or, ◌≤◌, ◌-◌, refl, sym, ◌∙◌, ap, subst, append_assoc}
+use Rattle.std.proofs.Common.{◌≡◌, ℕ, List, [], ◌∷◌, ◌++◌, true, false, length, take, drop, map, slice_index_or, ◌≤◌, ◌-◌, refl, sym, ◌∙◌, ap, subst, append_assoc}
 use Rattle.std.proofs.lemmas.List.{append-nil, length-map, map-append}
 use Rattle.batch_history.specs.Rows.{Rows}
 use Rattle.durable_log.specs.Format.{LogRecord}
@@ -9,14 +9,17 @@ use Rattle.script_log.proofs.Splitting.{split-shown, number-is}
 use Rattle.script_log.specs.Bases.{lines_of_records}
 use Rattle.log_base.specs.Bases.{AreNextLines, IsFirstBad, is_next_line, with_line, with_rows_of}
 
-next-push : (r : Rows) (done : List LogRecord) (x : LogRecord) → AreNextLines r (lines_of_records done) → is_next_line (with_rows_of r (lines_of_records done)) x.line ≡ true
-    → AreNextLines r (lines_of_records (done ++ x ∷ []))
-next-push r [] x all one = (one, tt)
-next-push r (y ∷ done) x all one = (all.0, next-push (with_line r y.line) done x all.1 one)
+-- one line more behind lines
+pub next_push : (r : Rows) (lines : List (List ℕ)) (line : List ℕ) → AreNextLines r lines → is_next_line (with_rows_of r lines) line ≡ true → AreNextLines r (lines ++ line ∷ [])
+next_push r [] line all one = (one, tt)
+next_push r (first ∷ lines) line all one = (all.0, next_push (with_line r first) lines line all.1 one)
 
-with-push : (r : Rows) (done : List LogRecord) (x : LogRecord) → with_rows_of r (lines_of_records (done ++ x ∷ [])) ≡ with_line (with_rows_of r (lines_of_records done)) x.line
-with-push r [] x = refl
-with-push r (y ∷ done) x = with-push (with_line r y.line) done x
+pub with_push : (r : Rows) (lines : List (List ℕ)) (line : List ℕ) → with_rows_of r (lines ++ line ∷ []) ≡ with_line (with_rows_of r lines) line
+with_push r [] line = refl
+with_push r (first ∷ lines) line = with_push (with_line r first) lines line
+
+lines-push : (done : List LogRecord) (x : LogRecord) → lines_of_records done ++ x.line ∷ [] ≡ lines_of_records (done ++ x ∷ [])
+lines-push done x = sym (map-append (λ (r : LogRecord). r.line) done (x ∷ []))
 
 module _ (first : Rows) where
   -- the rows of these records were added, and the others are left
@@ -34,8 +37,8 @@ module _ (first : Rows) where
   added-more records rest x now later A next is = record {
     done = A.done ++ x ∷ [];
     split = append_assoc A.done (x ∷ []) rest ∙ A.split;
-    next = next-push first A.done x A.next (subst (λ (r : Rows). is_next_line r x.line ≡ true) A.are next);
-    are = is ∙ (ap (λ (r : Rows). with_line r x.line) A.are ∙ sym (with-push first A.done x));
+    next = subst (AreNextLines first) (lines-push A.done x) (next_push first (lines_of_records A.done) x.line A.next (subst (λ (r : Rows). is_next_line r x.line ≡ true) A.are next));
+    are = is ∙ (ap (λ (r : Rows). with_line r x.line) A.are ∙ (sym (with_push first (lines_of_records A.done) x.line) ∙ ap (with_rows_of first) (lines-push A.done x)));
   }
 
   added-not : (records rest : List LogRecord) (x : LogRecord) (now : Rows) (place : ℕ) (A : Added records (x ∷ rest) now) → is_next_line now x.line ≡ false → place ≡ length A.done

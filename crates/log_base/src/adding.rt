@@ -10,7 +10,7 @@ use row_repository::{RowFault, RowRepository, RowRestoration};
 use std::alloc::Global;
 
 /// Adds the row of a line.
-fn add_row<J: RowRepository, B: RowRestoration<J>>(
+pub(crate) fn add_row<J: RowRepository, B: RowRestoration<J>>(
     rows: &mut B,
     line: BaseLine,
 ) -> Result<(), LineFault>

@@ -10,4 +10,4 @@ mod writing;
 
 pub use fault::BaseFault;
 pub use restored::restored_base;
-pub use writing::log_of_rows;
+pub use writing::{RebuiltLog, rebuilt_log};

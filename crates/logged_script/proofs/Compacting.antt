@@ -1,5 +1,5 @@
 -- A log that is made anew from the rows of another one.
-use Rattle.std.proofs.Common.{◌≡◌, ◌∙◌, ℕ, ◌<◌, ◌==◌, Bool, true, false, cond, Option, None, Some, List, [], ◌∷◌, map, length, Result, Ok, Err, refl, sym, ap, subst, arith}
+use Rattle.std.proofs.Common.{◌≡◌, ◌∙◌, ℕ, ◌==◌, Bool, true, false, cond, Option, None, Some, List, [], ◌∷◌, map, length, Result, Ok, Err, refl, sym, ap}
 use Rattle.std.specs.Prelude.{box_value}
 use Rattle.jsl_json.specs.declared.fault.ReadFault.{ReadFault}
 use Rattle.jsl_model.specs.Jobs.{JobTree}
@@ -17,24 +17,19 @@ use Rattle.script_text.specs.declared.command.Command.{Command}
 use Rattle.script_text.specs.declared.command.Command.TheVariants.{BadLine, TextTooLong, Act, Ask}
 use Rattle.script_engine.specs.ByRows.{command_at, line_rows_by, rows_by, rows_past}
 use Rattle.script_engine.specs.Script.{catalogue_at}
-use Rattle.durable_log.specs.Format.{LogRecord}
-use Rattle.durable_log.specs.Files.{StandsFor}
 use Rattle.durable_log.specs.Logs.{records_of}
 use Rattle.durable_log.proofs.Fronts.{records-stand}
 use Rattle.script_log.specs.Runs.{History as LogHistory, base_lines, base_record, history_of, kept_lines, last_catalogue}
-use Rattle.log_base.proofs.Rebuilt.{numbers_all, rebuilt}
-use Rattle.log_base.specs.Bases.{HasHeadAndRows, IsBase, head_in, rows_at_head, rows_of_base}
-use Rattle.log_base.specs.Writing.{HasBaseOf, records_of_base}
+use Rattle.log_base.proofs.Rebuilt.{numbers_all}
+use Rattle.log_base.specs.Bases.{head_in, rows_at_head, rows_of_base}
+use Rattle.log_base.specs.Writing.{IsLogOfRows, records_of_base}
 use Rattle.base_text.specs.Lines.{base_line_of}
 use Rattle.base_text.specs.declared.head.BaseHead.{BaseHead}
-use Rattle.logged_script.specs.Compactions.{IsCompacted, IsMadeAnew}
-use Rattle.logged_script.specs.Faults.{GoesOnFrom}
+use Rattle.logged_script.specs.Compactions.{IsCompacted}
 use Rattle.logged_script.specs.Histories.{Answers, jobs_at, jobs_read, rows_at, rows_begun}
-use Rattle.logged_script.specs.Openings.{IsBegun, records_begun}
 use Rattle.logged_script.specs.Tags.{commands_in}
 use Rattle.logged_script.specs.declared.engine.ScriptEngine.{ScriptEngine}
 use Rattle.logged_script.proofs.Keeping.{no-commands}
-use Rattle.logged_script.proofs.Widening.{same-jobs}
 
 -- ---- The catalogue of rows
 
@@ -80,28 +75,7 @@ catalogue-base jobs (line ∷ lines) =
 catalogue-of : (tags : Bool) (h : LogHistory) → (rows_at tags h).catalogue ≡ jobs_at h
 catalogue-of tags h = catalogue-past (rows_begun h) (commands_in tags h.lines) ∙ catalogue-base (jobs_at h) h.base
 
--- the engine's rows are those of the log that was made anew from them
-pub compacted_of : {J : Type 0} {n : ℕ} (tags : Bool) (limit : ℕ) (rows_in : J → Rows) (engine anew : ScriptEngine J n) (r : Rows) (line : List ℕ) (jobs : List JobTree) (now h : LogHistory)
-    → catalogue_at line ≡ Ok jobs → IsMadeAnew tags limit rows_in r line jobs anew now → (rows_in (box_value anew.repository)).instances ≡ r.instances
-    → r ≡ rows_in (box_value engine.repository) → Answers tags limit rows_in engine h → jobs_at h ≡ jobs_read (catalogue_at line) → IsCompacted tags h line now
-compacted_of tags limit rows_in engine anew r line jobs now h read made same are answers of_jobs =
-    let is : r ≡ rows_at tags h = are ∙ answers.rows_are in
-    let given : jobs ≡ r.catalogue = sym (ap (λ (o : Rows). o.catalogue) is ∙ (catalogue-of tags h ∙ (of_jobs ∙ ap jobs_read read))) in
-    record {
-      catalogue = made.catalogue;
-      lines = made.lines;
-      rows = made.rows same ∙ (ap (λ (c : List JobTree). record r { catalogue = c }) given ∙ is);
-    }
-
 -- ---- The log that was made
-
-not-grown : (records : List LogRecord) (line : List ℕ) (grown : Bool) → GoesOnFrom records line grown → last_catalogue [] records ≡ line → grown ≡ false
-not-grown records line false G is = refl
-not-grown records line true G is =
-    let same : G.kept ≡ G.given = same-jobs (catalogue_at line) G.kept G.given (ap catalogue_at (sym is) ∙ G.has.read) G.is_given in
-    let less : length G.kept < length G.given = G.has_grown.1 in
-    let sizes : length G.kept ≡ length G.given = ap length same in
-    absurd (omega (arith, less, sizes))
 
 lines-base : (lines : List (List ℕ)) (text : List ℕ) → (base_lines (map base_record lines) ≡ lines) × (kept_lines (map base_record lines) ≡ []) × (last_catalogue text (map base_record lines) ≡ text)
 lines-base [] text = (refl, refl, refl)
@@ -114,32 +88,31 @@ history-base line lines =
     let parts = lines-base lines line in
     λ i. record { catalogue = parts.2 i; base = parts.0 i; lines = parts.1 i }
 
-begun-same : (records : List LogRecord) (line : List ℕ) (grown : Bool) (now : List LogRecord) → grown ≡ false → now ≡ records_begun records line grown → now ≡ records
-begun-same records line grown now is begun = begun ∙ ap (records_begun records line) is
+-- the log of rows has them, and no line
+module _ (tags : Bool) (limit : ℕ) (r : Rows) (line file : List ℕ) (jobs : List JobTree)
+    (read : catalogue_at line ≡ Ok jobs) (L : IsLogOfRows limit jobs r line file) where
+  history-is : history_of (records_of file) ≡ record { catalogue = line; base = L.lines; lines = [] }
+  history-is = ap history_of (records-stand (records_of_base line L.lines) file L.stands) ∙ history-base line L.lines
 
-pub made_anew : {J : Type 0} {n : ℕ} (tags : Bool) (limit : ℕ) (rows_in : J → Rows) (r : Rows) (line file : List ℕ) (jobs : List JobTree) (engine : ScriptEngine J n) (now : List LogRecord)
-    → catalogue_at line ≡ Ok jobs → HasBaseOf r line file → IsBegun tags file line now → Answers tags limit rows_in engine (history_of now)
-    → IsMadeAnew tags limit rows_in r line jobs engine (history_of now)
-made_anew tags limit rows_in r line file jobs engine now read base begun answers =
-    let made : records_of file ≡ records_of_base line (base.head ∷ base.lines) = records-stand _ file base.stands in
-    let all : history_of (records_of file) ≡ record { catalogue = line; base = base.head ∷ base.lines; lines = [] } = ap history_of made ∙ history-base line (base.head ∷ base.lines) in
-    let stays = not-grown (records_of file) line begun.grown begun.goes_on (ap (λ (h : LogHistory). h.catalogue) all) in
-    let is : history_of now ≡ record { catalogue = line; base = base.head ∷ base.lines; lines = [] } =
-    ap history_of (begun-same (records_of file) line begun.grown now stays begun.records) ∙ all in
-    let given : begun.goes_on.given ≡ jobs = same-jobs (catalogue_at line) begun.goes_on.given jobs begun.goes_on.is_given read in
-    let is_base : HasHeadAndRows most_numbered jobs base.head base.lines =
-    subst (λ (lines : List (List ℕ)). IsBase most_numbered jobs lines) (ap (λ (h : LogHistory). h.base) all) (subst (λ (j : List JobTree). IsBase most_numbered j (base_lines (records_of file))) given begun.base.is_base) in
-    -- without lines the rows are those of the base
-    let rows_are : rows_at tags (history_of now) ≡ rows_of_base jobs (base.head ∷ base.lines) =
-    ap (rows_at tags) is
-    ∙ (ap (rows_past most_numbered (rows_of_base (jobs_read (catalogue_at line)) (base.head ∷ base.lines))) (no-commands tags)
-    ∙ ap (λ (o : Result (List JobTree) ReadFault). rows_of_base (jobs_read o) (base.head ∷ base.lines)) read) in
-    record {
-      answers = answers;
-      catalogue = ap (λ (h : LogHistory). h.catalogue) is;
-      lines = ap (λ (h : LogHistory). h.lines) is;
-      rows = λ same.
-          rows_are
-          ∙ rebuilt jobs r base.head base.lines base.marks base.count base.is_head base.shown base.marks_are is_base.next
-          (ap (λ (o : Rows). o.instances) (sym rows_are) ∙ (ap (λ (o : Rows). o.instances) (sym answers.rows_are) ∙ same));
-    }
+  rows-are : rows_at tags (history_of (records_of file)) ≡ record r { catalogue = jobs }
+  rows-are =
+      ap (rows_at tags) history-is
+      ∙ (ap (rows_past most_numbered (rows_of_base (jobs_read (catalogue_at line)) L.lines)) (no-commands tags)
+      ∙ (ap (λ (o : Result (List JobTree) ReadFault). rows_of_base (jobs_read o) L.lines) read ∙ L.rows_are))
+
+  -- the repository that was restored answers for it
+  pub answers_anew : {J : Type 0} {n : ℕ} (rows_in : J → Rows) (anew : ScriptEngine J n) (repository : J) → limit ≡ most_numbered → box_value anew.repository ≡ repository → rows_in repository ≡ record r { catalogue = jobs }
+      → Answers tags limit rows_in anew (history_of (records_of file))
+  answers_anew rows_in anew repository most holds are = record { limit_is = most; rows_are = ap rows_in holds ∙ (are ∙ sym rows-are) }
+
+  -- it stands for the history of an engine that has these rows
+  pub compacted_of : {J : Type 0} {n : ℕ} (rows_in : J → Rows) (engine : ScriptEngine J n) (h : LogHistory) → r ≡ rows_in (box_value engine.repository) → Answers tags limit rows_in engine h → jobs_at h ≡ jobs_read (catalogue_at line)
+      → IsCompacted tags h line (history_of (records_of file))
+  compacted_of rows_in engine h are answers of_jobs =
+      let is : r ≡ rows_at tags h = are ∙ answers.rows_are in
+      let given : jobs ≡ r.catalogue = sym (ap (λ (o : Rows). o.catalogue) is ∙ (catalogue-of tags h ∙ (of_jobs ∙ ap jobs_read read))) in
+      record {
+        catalogue = ap (λ (o : LogHistory). o.catalogue) history-is;
+        lines = ap (λ (o : LogHistory). o.lines) history-is;
+        rows = rows-are ∙ (ap (λ (c : List JobTree). record r { catalogue = c }) given ∙ is);
+      }

@@ -1,19 +1,18 @@
 // The log of a repository's rows, with no operation behind them.
-ghost use Rattle.std.specs.Prelude.{◌≡◌, [], false, List, ℕ, Ok, IfOk};
+ghost use Rattle.std.specs.Prelude.{◌≡◌, [], false, List, Ok, IfOk};
 ghost use Rattle.batch_history.specs.Legal.{most_numbered};
 ghost use Rattle.durable_log.specs.Logs.{records_of, IsRest};
 ghost use Rattle.jsl_model.specs.Jobs.{JobTree};
 ghost use Rattle.script_engine.specs.Script.{catalogue_at};
 ghost use Rattle.script_log.specs.Runs.{History as LogHistory, history_of};
-ghost use Rattle.logged_script.specs.Compactions.{IsCompacted, IsMadeAnew};
+ghost use Rattle.logged_script.specs.Compactions.{IsCompacted};
 ghost use Rattle.logged_script.specs.Histories.{Answers, jobs_at, jobs_read};
 
 use crate::catalogue::catalogue_at;
 use crate::engine::ScriptEngine;
-use crate::opening::{OpeningFault, RestoredLog, restore};
+use crate::opening::RestoredLog;
 use base_text::BaseTextFault;
-use jsl_model::Catalogue;
-use log_base::log_of_rows;
+use log_base::rebuilt_log;
 use row_repository::{RowRepository, RowRestoration};
 use std::alloc::Global;
 use std::error::Error;
@@ -48,38 +47,12 @@ impl From<BaseTextFault> for CompactionFault {
     }
 }
 
-// Makes the bytes of the log, and restores them as opening does.
-fn restored_anew<J: RowRepository, B: RowRestoration<J>, const TAGS: bool>(
-    alloc: Global,
-    line: &[u8],
-    catalogue: Catalogue,
-    repository: &J,
-) -> Result<RestoredLog<J, TAGS>, CompactionFault>
-    requires limit { J.limit ≡ most_numbered }
-    requires catalogue { catalogue_at line.now ≡ Ok catalogue }
-    ensures made { IfOk result (λ log. IsMadeAnew TAGS J.limit J.rows (J.rows repository.now) line.now catalogue log.engine (history_of (records_of log.file.bytes.items))) }
-    ensures rest { IfOk result (λ log. IsRest log.file.bytes.items log.file.rest) }
-{
-    let made = match log_of_rows(alloc, line, repository) {
-        Ok(made) => made,
-        Err(fault) => {
-            drop(catalogue);
-            return Err(CompactionFault::from(fault));
-        }
-    };
-    match restore::<J, B, TAGS>(alloc, made.bytes, line, catalogue) {
-        Ok(log) => Ok(log),
-        Err(OpeningFault::Refused(_)) => Err(CompactionFault::NotAlike),
-        Err(OpeningFault::OutOfMemory) => Err(CompactionFault::OutOfMemory),
-    }
-}
-
 /// Makes the log of a restored one anew: its catalogue, whose line is `line`, and as its base the rows
 /// of its engine, which is left as it is. There is no host here: no file changes.
 ///
-/// The new log is restored from its bytes as any log is, by `B`, and its rows are compared, so a
-/// wrong base can't pass. It takes the time of one to two openings, and the memory of a further
-/// engine.
+/// Each line of the base is read back as it is written, and compared with its row. The engine of the
+/// new log is restored, by `B`, from what was read, so a wrong base can't pass. It takes the time of
+/// an opening of the new log and of writing it, and the memory of a further engine.
 ///
 /// # Errors
 ///
@@ -107,15 +80,14 @@ pub fn compacted<J: RowRepository, B: RowRestoration<J>, const TAGS: bool>(
         Ok(catalogue) => catalogue,
         Err(_) => return Err(CompactionFault::OutOfMemory),
     };
-    let repository = engine.repository();
-    let log = restored_anew::<J, B, TAGS>(alloc, line, catalogue, repository)?;
-    if !log.engine.repository().has_instances_of(repository) {
-        return Err(CompactionFault::NotAlike);
+    let made = rebuilt_log::<J, B>(alloc, line, catalogue, engine.repository())?;
+    match ScriptEngine::over(alloc, made.repository) {
+        Ok(engine) => Ok(RestoredLog {
+            file: made.file,
+            cut: Vec::new(alloc),
+            reopens: false,
+            engine,
+        }),
+        Err(_) => Err(CompactionFault::OutOfMemory),
     }
-    Ok(RestoredLog {
-        file: log.file,
-        cut: Vec::new(alloc),
-        reopens: false,
-        engine: log.engine,
-    })
 }

@@ -76,7 +76,7 @@ impl<J: RowRepository, const TAGS: bool> ScriptEngine<J, TAGS> {
     }
 
     // Makes the engine of a repository.
-    fn over(alloc: Global, repository: J) -> Result<ScriptEngine<J, TAGS>, OutOfMemory>
+    pub(crate) fn over(alloc: Global, repository: J) -> Result<ScriptEngine<J, TAGS>, OutOfMemory>
         ensures { IfOk result (λ engine. box_value engine.repository ≡ repository) }
     {
         match Box::new(alloc, repository) {

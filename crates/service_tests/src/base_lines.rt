@@ -1,7 +1,7 @@
 //! The exact lines of rows, and each optional member there and left out. A line is read back before
 //! it is handed out, so a test need not read it again.
 use base_text::{
-    BaseHead, BaseLineFault, checkpoint_text, execution_text, head_text, read_base_line, work_text,
+    BaseHead, BaseLineFault, checkpoint_line, execution_line, head_text, read_base_line, work_line,
 };
 use batch_history::{CheckpointRow, ExecutionRow, LastNumbers, WorkKind, WorkRow, WorkState};
 use batch_ids::{
@@ -189,7 +189,7 @@ const EXECUTIONS: [(u32, &str); 2] = [
 fn the_lines_of_job_executions(rt: HostRuntime) -> Result<(), Fail> {
     for (bits, line) in &EXECUTIONS {
         let row = execution(rt.alloc(), *bits, 1, "j")?;
-        let text = execution_text(rt.alloc(), &row)?;
+        let text = execution_line(rt.alloc(), &row)?.text;
         assert!(rt; text.as_slice() == line.as_bytes(), "{bits}");
     }
     Ok(())
@@ -199,7 +199,7 @@ fn the_lines_of_job_executions(rt: HostRuntime) -> Result<(), Fail> {
 fn each_optional_member_of_a_job_execution(rt: HostRuntime) -> Result<(), Fail> {
     for bits in 0..512 {
         let row = execution(rt.alloc(), bits, u64::MAX, ODD)?;
-        assert!(rt; execution_text(rt.alloc(), &row).is_ok(), "{bits}");
+        assert!(rt; execution_line(rt.alloc(), &row).is_ok(), "{bits}");
     }
     Ok(())
 }
@@ -220,7 +220,7 @@ fn each_batch_status(rt: HostRuntime) -> Result<(), Fail> {
     for status in &STATUSES {
         let mut row = execution(rt.alloc(), 0, 0, "")?;
         row.bare = *status;
-        assert!(rt; execution_text(rt.alloc(), &row).is_ok(), "{status}");
+        assert!(rt; execution_line(rt.alloc(), &row).is_ok(), "{status}");
     }
     Ok(())
 }
@@ -241,7 +241,7 @@ fn the_greatest_job_execution(rt: HostRuntime) -> Result<(), Fail> {
     let mut row = execution(rt.alloc(), 510, u64::MAX, text.as_str())?;
     row.parameters = most_parameters(rt.alloc())?;
     assert!(rt; row.parameters.len() == 64);
-    assert!(rt; execution_text(rt.alloc(), &row).is_ok());
+    assert!(rt; execution_line(rt.alloc(), &row).is_ok());
     Ok(())
 }
 
@@ -261,7 +261,7 @@ const WORKS: [(u32, &str); 2] = [
 fn the_lines_of_work_items(rt: HostRuntime) -> Result<(), Fail> {
     for (bits, line) in &WORKS {
         let row = work(rt.alloc(), *bits, WorkOutcome::Failed, 1, "e")?;
-        let text = work_text(rt.alloc(), &row)?;
+        let text = work_line(rt.alloc(), &row)?.text;
         assert!(rt; text.as_slice() == line.as_bytes(), "{bits}");
     }
     Ok(())
@@ -280,7 +280,7 @@ fn each_optional_member_of_a_work_item(rt: HostRuntime) -> Result<(), Fail> {
         for bits in 0..8 {
             let mut row = work(rt.alloc(), bits, *outcome, u64::MAX, ODD)?;
             row.kind = *kind;
-            assert!(rt; work_text(rt.alloc(), &row).is_ok(), "{bits}");
+            assert!(rt; work_line(rt.alloc(), &row).is_ok(), "{bits}");
         }
     }
     Ok(())
@@ -290,14 +290,14 @@ fn each_optional_member_of_a_work_item(rt: HostRuntime) -> Result<(), Fail> {
 fn a_work_item_that_no_history_has(rt: HostRuntime) -> Result<(), Fail> {
     let mut row = work(rt.alloc(), 0, WorkOutcome::Failed, 1, "e")?;
     row.ended = Some(1);
-    assert!(rt; work_text(rt.alloc(), &row).is_err());
+    assert!(rt; work_line(rt.alloc(), &row).is_err());
     Ok(())
 }
 
 #[test]
 fn the_line_of_a_checkpoint(rt: HostRuntime) -> Result<(), Fail> {
     let row = checkpoint(rt.alloc(), u64::MAX, "s", ODD)?;
-    let text = checkpoint_text(rt.alloc(), &row)?;
+    let text = checkpoint_line(rt.alloc(), &row)?.text;
     let line =
         "{\"instance\":18446744073709551615,\"mark\":\"\\\"\\\\/\\b\\f\\n\\r\\t\\u0000\\u001f\u{7f}\u{e9}\u{2028}\u{ffff}\u{1f600}\",\"partition\":0,\"step\":\"s\"}";
     assert!(rt; text.as_slice() == line.as_bytes());
@@ -309,7 +309,7 @@ fn the_greatest_checkpoint(rt: HostRuntime) -> Result<(), Fail> {
     let step = "\u{1f600}".repeat(rt.alloc(), 64)?;
     let mark = "\u{0}".repeat(rt.alloc(), 65536)?;
     let row = checkpoint(rt.alloc(), u64::MAX, step.as_str(), mark.as_str())?;
-    assert!(rt; checkpoint_text(rt.alloc(), &row).is_ok());
+    assert!(rt; checkpoint_line(rt.alloc(), &row).is_ok());
     Ok(())
 }
 

@@ -1,12 +1,8 @@
-use Rattle.std.proofs.Common.{List, sym, subst}
-use Rattle.durable_log.specs.Files.{StandsFor}
-use Rattle.durable_log.specs.Format.{LogRecord}
-use Rattle.durable_log.specs.Logs.{records_of}
+use Rattle.log_base.proofs.Written.{stands_still}
 use Rattle.log_base.proofs.writing.BaseFile.put.Goals as goal
 
-pub invariant_of-self-in-Ok-push : goal.invariant_of-self-in-Ok-push
-invariant_of-self-in-Ok-push c = (
+pub invariant_of-self : goal.invariant_of-self
+invariant_of-self c = (
   c.push.ensures.rest,
-  subst (λ (rs : List LogRecord). StandsFor rs c.push.new.self.bytes.items) (sym c.in-Ok-push.ensures.records)
-      (c.in-Ok-push.ensures.stands (records_of c.self.inside.file.bytes.items) c.self.invariant.1),
+  stands_still c.push.result c.self.inside.file.bytes.items c.push.new.self.bytes.items _ c.self.invariant.1 c.push.ensures.records c.push.ensures.stands c.push.ensures.err,
 )
