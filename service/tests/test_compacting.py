@@ -25,6 +25,9 @@ from job_host.service.stores.beside_files import STORE_NAME
 
 Make = Callable[..., ServeSettings]
 
+# The word of a tag that tells the remote address.
+FROM_HERE = b"=127.0.0.1"
+
 
 @pytest.fixture
 def words(monkeypatch: pytest.MonkeyPatch) -> list[list[str]]:
@@ -211,7 +214,11 @@ async def test_the_log_names_its_history_and_clients_again(compacting: Make) -> 
         await two.finish(1, "STOPPED")
         await one.change(1, "abandon")
         found = [record.tag for record in log_file.records(made.data / LOG_NAME) if record.is_operation]
-        assert [tag.split(b" ") for tag in found] == [[b"one", b"@" + identity.encode()], [b"two"], [b""]]
+        assert [tag.split(b" ") for tag in found] == [
+            [b"one", FROM_HERE, b"@" + identity.encode()],
+            [b"two", FROM_HERE],
+            [b"one", FROM_HERE],
+        ]
 
 
 async def test_a_compaction_waits_for_open_request_keys(compacting: Make) -> None:

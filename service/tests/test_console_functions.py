@@ -159,8 +159,8 @@ ONE = """{executionId: 7, instanceId: 3, jobName: 'nightly', batchStatus: 'FAILE
     {stepName: 'print', batchStatus: 'FAILED', exitStatus: 'NO PAPER', startTime: SIX, endTime: LATER, metrics: {}}]}"""
 ONE = ONE.replace("SIX", SIX).replace("TOMORROW", TOMORROW).replace("LATER", LATER)
 OPERATIONS = f"""[{{operation: 9, action: 'finish', work: 2, client: 'w1', time: {SIX}}},
-  {{operation: 8, action: 'restart', made: 7, client: 'anna', time: {SIX}}},
-  {{operation: 7, action: 'lose', work: 1, client: '', time: {SIX}}}]"""
+  {{operation: 8, action: 'restart', made: 7, client: 'ops/anna', token: 'ops', address: '::1', time: {SIX}}},
+  {{operation: 7, action: 'lose', work: 1, client: '', token: null, address: null, time: {SIX}}}]"""
 ITEM = f"{{stepName: 'load', partition: 0, outcome: 'COMPLETED', exitStatus: '', client: 'w1', since: {SIX}, until: {LATER}}}"
 PAGE = f"""(async () => {{
   const path = "/batch/jobexecutions/7";
@@ -212,9 +212,9 @@ EXECUTIONS: list[tuple[str, Any]] = [
     (
         rows("Who did what"),
         [
-            ["9", "finish, work item 2", "w1", BEGUN],
-            ["8", "restart", "anna", BEGUN],
-            ["7", "lose, work item 1", "the service, as its lease ran out", BEGUN],
+            ["9", "finish, work item 2", "w1", "", "", BEGUN],
+            ["8", "restart", "ops/anna", "ops", "::1", BEGUN],
+            ["7", "lose, work item 1", "the service, as its lease ran out", "", "", BEGUN],
         ],
     ),
     (

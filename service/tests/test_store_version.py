@@ -80,7 +80,7 @@ async def test_a_file_without_a_version_is_brought_to_this_one(embedded: Make) -
     assert version_in(path) == 0
     async with running(made) as instance:
         await check_filled(instance, history)
-    assert version_in(path) == 4
+    assert version_in(path) == 5
 
 
 def contents(folder: Path) -> dict[str, bytes]:
@@ -97,7 +97,7 @@ async def test_a_file_of_a_later_version_is_refused_and_nothing_is_changed(embed
     process = Process(tmp_path / "service", *words)
     process.start()
     assert await asyncio.to_thread(process.wait) == 1
-    assert f"LaterVersion: the tables of {STORE_NAME} have version 7, and this jobhost knows up to version 4" in process.log
+    assert f"LaterVersion: the tables of {STORE_NAME} have version 7, and this jobhost knows up to version 5" in process.log
     assert contents(made.data) == before
 
 
@@ -217,7 +217,7 @@ async def test_tables_of_a_later_version_are_refused_and_nothing_is_changed(sett
     await table.close()
     before = await rows_of(made.postgres[0])
     told = await refusal(made)
-    assert told.startswith("LaterVersion: the tables of PostgreSQL have version 7, and this jobhost knows up to version 4")
+    assert told.startswith("LaterVersion: the tables of PostgreSQL have version 7, and this jobhost knows up to version 5")
     assert await rows_of(made.postgres[0]) == before
 
 

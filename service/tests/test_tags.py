@@ -2,6 +2,8 @@
 
 from __future__ import annotations
 
+import base64
+
 import pytest
 
 from job_host.protocol.lines import fingerprint
@@ -10,6 +12,7 @@ from job_host.service.http.access import NAME_BYTES, is_name
 from job_host.service.settings import Bounds
 
 DIGEST = fingerprint("a request")
+LONGEST = ":".join(["ffff"] * 8)
 HISTORY = "0123456789abcdef" * 2
 LINE = b'{"do":"claim","by":2,"at":3}'
 TAGS = [
@@ -20,6 +23,10 @@ TAGS = [
     Tag("one", "{key\\", DIGEST, history=HISTORY),
     Tag("one", "once", DIGEST, True, HISTORY),
     Tag("", history=HISTORY),
+    Tag("token/one", address="127.0.0.1"),
+    Tag("one", history=HISTORY, address=LONGEST),
+    Tag("one", "=key", DIGEST, address="::1"),
+    Tag("one", "@key", DIGEST, True, HISTORY, "10.0.0.1"),
 ]
 
 
@@ -32,12 +39,32 @@ def test_a_tag_is_read_as_it_was_written(tag: Tag) -> None:
 
 def test_the_longest_names_and_keys_fit() -> None:
     bounds = Bounds()
-    name = "n" * NAME_BYTES + "/" + "c" * bounds.name_bytes
+    name, key = "n" * NAME_BYTES + "/" + "c" * bounds.name_bytes, "k" * bounds.key_bytes
     assert is_name("n" * NAME_BYTES) and not is_name("n" * (NAME_BYTES + 1)) and not is_name("/")
-    assert len(Tag(name, "k" * bounds.key_bytes, DIGEST, True, HISTORY).written()) <= MOST_BYTES
+    assert len(Tag(name, key, DIGEST, True, HISTORY, LONGEST).written()) <= MOST_BYTES
 
 
-@pytest.mark.parametrize("text", [b"", b"one key", b"one key digest", b"one key 00 once more @1 2", b"\xff", b"one key 0"])
+def test_tags_are_written_so() -> None:
+    """As logs have them: a log of an earlier version, whose tags have no address, is read by the first form."""
+    assert Tag("one", "key", DIGEST, True).written() == b"one key " + DIGEST.hex().encode() + b" once"
+    letters = base64.urlsafe_b64encode(DIGEST).rstrip(b"=")
+    second = b"one key %b once =::1 @%b" % (letters, HISTORY.encode())
+    assert Tag("one", "key", DIGEST, True, HISTORY, "::1").written() == second
+
+
+# A fingerprint of one form with or without the other's address, one that is too short, and one that isn't written so.
+MIXED = [
+    b"one key %b =::1" % DIGEST.hex().encode(),
+    b"one key %b" % base64.urlsafe_b64encode(DIGEST).rstrip(b"="),
+    b"one key QUJD =::1",
+    b"one key %b =::1" % base64.urlsafe_b64encode(DIGEST),
+]
+
+
+NO_TAGS = [b"", b"one key", b"one key digest", b"one key 00 once more @1 2", b"\xff", b"one key 0", *MIXED]
+
+
+@pytest.mark.parametrize("text", NO_TAGS)
 def test_what_no_service_wrote_is_no_tag(text: bytes) -> None:
     assert read_tag(text) is None
 

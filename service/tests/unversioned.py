@@ -66,6 +66,7 @@ async def make_unversioned_tables(dsn: str) -> None:
         await table.execute(f"alter table job_host_{name} set schema now")
     await table.execute(POSTGRES_TABLES)
     for name in POSTGRES_NAMES:
-        await table.execute(f"insert into job_host_{name} select * from now.job_host_{name}")
+        columns = "number, epoch, line, reply, request_key" if name == "operation" else "*"
+        await table.execute(f"insert into job_host_{name} select {columns} from now.job_host_{name}")
     await table.execute("drop schema now cascade")
     await table.close()

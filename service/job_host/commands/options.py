@@ -137,10 +137,27 @@ def add_lists(subcommands: Subcommands[argparse.ArgumentParser]) -> None:
     parser.add_argument("--job", metavar="JOB", help="shows this job alone (default: all jobs)")
     parser.add_argument("--count", type=positive, default=20, help="how many starts are shown at most (default: %(default)s)")
     add_utc(parser)
+    add_audit(subcommands)
     add_execution(add_command(subcommands, "log", jobs.show_log, "shows the logs of a job execution's work items"))
     parser = add_command(subcommands, "watch", shown.watch, "shows a job execution until its end, or the newest job instances")
     execution = "the job execution's number (default: none, and the newest job instances are shown)"
     parser.add_argument("execution", type=int, nargs="?", metavar="EXECUTION", help=execution)
+    add_utc(parser)
+
+
+def add_audit(subcommands: Subcommands[argparse.ArgumentParser]) -> None:
+    from job_host.commands import audit
+
+    told = "shows who did what: each operation by whom, by which token, from where and when, the newest first"
+    parser = add_command(subcommands, "audit", audit.audit, told)
+    parser.add_argument("--job", metavar="JOB", help="shows operations on this job alone (default: on all)")
+    parser.add_argument("--by-client", metavar="NAME", help="shows operations of this client alone (default: of all)")
+    parser.add_argument("--by-token", metavar="NAME", help="shows operations by the token of this name alone (default: by all)")
+    time = "a day of UTC, as 2026-11-27, or a time with its zone, as 2026-11-27T10:00:00Z"
+    parser.add_argument("--since", metavar="TIME", help=f"shows operations from then on: {time} (default: from the first on)")
+    until = "shows operations up to the end of a day, or before a time"
+    parser.add_argument("--until", metavar="TIME", help=f"{until}, written as for --since (default: up to the last)")
+    parser.add_argument("--count", type=positive, default=50, help="how many are shown at most (default: %(default)s)")
     add_utc(parser)
 
 

@@ -14,6 +14,10 @@ from job_host.protocol.printable import printable, printable_lines
 
 COLOURS = {"COMPLETED": "green", "FAILED": "red", "STOPPED": "yellow", "ABANDONED": "magenta"}
 
+# Columns of who made an operation; and what it was on.
+ORIGIN = ("by", "token", "from")
+ON = {"executionId": "job execution", "work": "work item", "instanceId": "job instance"}
+
 Told = Mapping[str, Any]
 
 
@@ -77,12 +81,27 @@ def execution_table(told: Told, in_utc: bool) -> Table:
 
 def operation_table(told: Sequence[Told], execution: int, in_utc: bool) -> Table:
     """Who did what to a job execution."""
-    table = folded("operation", "action", "by", "at")
+    table = folded("operation", "action", *ORIGIN, "at")
     for one in told:
         made = f", job execution {one['made']}" if one["made"] not in (None, execution) else ""
         of = f", work item {one['work']}" if one["work"] else made
-        by = {None: "unknown", "": "the service"}.get(one["client"], one["client"])
-        table.add_row(plain(one["operation"]), plain(one["action"] + of), plain(by), clock(one["time"], in_utc))
+        table.add_row(plain(one["operation"]), plain(one["action"] + of), *origin_texts(one), clock(one["time"], in_utc))
+    return table
+
+
+def origin_texts(one: Told) -> list[Text]:
+    """Who made an operation, by which token, and from where."""
+    by = {None: "unknown", "": "the service"}.get(one["client"], one["client"])
+    return [plain(by), plain(one["token"]), plain(one["address"])]
+
+
+def audit_table(told: Sequence[Told], in_utc: bool) -> Table:
+    """Who did what, on which job execution of which job."""
+    table = folded("operation", "action", *ORIGIN, "job", "on", "at")
+    for one in told:
+        on = ", ".join(f"{what} {one[name]}" for name, what in ON.items() if one[name])
+        shown = [plain(one["jobName"]), plain(on), clock(one["time"], in_utc)]
+        table.add_row(plain(one["operation"]), plain(one["action"]), *origin_texts(one), *shown)
     return table
 
 

@@ -165,10 +165,17 @@ function madeBy(client) {
 }
 
 function operationsTable({ one, operations }) {
-  const columns = [{ name: "Operation", kind: "number" }, { name: "What" }, { name: "By" }, { name: "At" }];
+  const columns = [
+    { name: "Operation", kind: "number" }, { name: "What" }, { name: "By" }, { name: "Token" }, { name: "From" },
+    { name: "At" },
+  ];
   return table("Who did what to this job execution, the newest first", columns, operations.map((each) => ({
     key: each.operation,
-    cells: [String(each.operation), [each.action, madeOn(each, one)], madeBy(each.client), when(each.time)],
+    // The archive has older ones without a token and an address.
+    cells: [
+      String(each.operation), [each.action, madeOn(each, one)], madeBy(each.client), told(each.token ?? ""),
+      told(each.address ?? ""), when(each.time),
+    ],
   })), "Nothing was done.");
 }
 

@@ -17,11 +17,12 @@ from job_host.service.history.work_items import MOST_ENDED, Ended, Held
 
 
 class MadeExecution(NamedTuple):
-    """A job execution of a base, its job instance, and the moment at which it was made."""
+    """A job execution of a base, its job instance, the moment at which it was made, and its job."""
 
     execution: int
     instance: int
     create: int
+    job: str = ""
 
 
 class LastEnded:
@@ -71,7 +72,7 @@ class Base:
         if "work" in row:
             self._note_work(row)
         elif "job" in row:
-            self.executions.append(MadeExecution(row["execution"], row["instance"], row["create"]))
+            self.executions.append(MadeExecution(row["execution"], row["instance"], row["create"], row["job"]))
             self.last_moment = max(self.last_moment, row["create"], row["updated"])
 
     def _note_work(self, row: Mapping[str, Any]) -> None:

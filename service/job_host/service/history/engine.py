@@ -13,8 +13,9 @@ from typing import Any, NamedTuple
 from job_host.catalogue.jobs import jobs_of
 from job_host.catalogue.names import PLAIN_NAMES, JobNames
 from job_host.protocol.lines import LinesDigest, is_accepted, query
-from job_host.service.history.actions import ACTIONS, Action, Actions
+from job_host.service.history.actions import ACTIONS, MAKING, Action, Actions
 from job_host.service.history.answers import Answers
+from job_host.service.history.audited import Did, MadeJobs
 from job_host.service.history.base import Base
 from job_host.service.history.causes import FAILED
 from job_host.service.history.changes import MOST_NAMED, Changes
@@ -45,11 +46,12 @@ def not_restartable(catalogue: bytes) -> frozenset[str]:
 
 
 class Record(NamedTuple):
-    """An operation."""
+    """An operation, and what it did, if that is known."""
 
     number: int
     line: bytes
     reply: bytes
+    did: Did | None = None
 
 
 class ReplayDiffers(Exception):
@@ -68,7 +70,8 @@ class Engine:
     """Counts what the co-process enters. `turn` is held by reads of several steps, so that no command comes between them.
 
     `recent` has the last operation that is known to be kept, and all behind it. `is_whole` says that each operation which the
-    co-process was handed by a replay is noted here. `digest` is of the lines behind the base of the log, if it has one.
+    co-process was handed by a replay is noted here. `digest` is of the lines behind the base of the log, if it has one. `did`
+    tells of the operations that were entered last.
     """
 
     def __init__(self, process: CoProcess, names: JobNames = PLAIN_NAMES) -> None:
@@ -82,11 +85,15 @@ class Engine:
         self.busy: dict[int, int] = {}
         self.ended_work = EndedWork()
         self.last_work = 0
+        # The work item of the last claim, or 0 if it found none.
+        self._claimed = 0
         # Also those that failed long ago.
         self.failed_work = EndedWork()
         self.changes = Changes()
         self.executions = ExecutionIndex(self, names)
         self.actions = Actions(self.executions.numbers)
+        self.jobs = MadeJobs(self.executions.numbers)
+        self.did: list[Did] = []
         self.open = OpenIndex(self, self.executions, self.busy, self.may_restart, names)
         self.recent: deque[Record] = deque()
         self.base: KnownBase | None = None
@@ -141,6 +148,7 @@ class Engine:
         self.last_moment, self.last_session = base.last_moment, base.last_session
         self.executions.begin(base)
         self.actions.begin(row.create for row in base.executions)
+        self.jobs.begin(self.names.name_of(row.job) for row in base.executions)
         self.changes.begin(self.entered)
         for held in base.held:
             self._note_busy(held)
@@ -182,7 +190,7 @@ class Engine:
                 heard(None, None, self.entered)
             elif is_accepted(reply):
                 self.enter([line], [reply])
-                self.recent.append(Record(self.entered, line, reply))
+                self.recent.append(Record(self.entered, line, reply, self.did[-1]))
                 heard(reply, self.entered, self.entered)
             else:
                 heard(reply, None, self.entered)
@@ -196,50 +204,53 @@ class Engine:
         operations = json.loads(b"[%b]" % b",".join(lines))
         telling = [reply for told, reply in zip(operations, replies, strict=True) if told["do"] in TELLING]
         answers = iter(json.loads(b"[%b]" % b",".join(telling)))
-        for told in operations:
-            self._enter(told, answers)
+        self.did = [self._enter(told, answers) for told in operations]
         self.last_moment = max(self.last_moment, *(told["at"] for told in operations))
         self.last_session = max(self.last_session, *(told["by"] for told in operations))
         self.is_whole = True
         if any(told["do"] not in GIVES_NO_WORK for told in operations):
             self.may_give_work()
 
-    def _enter(self, told: dict[str, Any], answers: Iterator[dict[str, Any]]) -> None:
+    def _enter(self, told: dict[str, Any], answers: Iterator[dict[str, Any]]) -> Did:
         self.entered += 1
         do = told["do"]
         if do == "purge":
-            self._note_purge(told)
-            return
+            return self._note_purge(told)
         execution = self._execution_of(do, told, answers)
         self.executions.note_changed(execution, self.entered)
         self.open.note_changed(execution)
         self.changes.note(self.entered, [execution, told["execution"]] if do == "restart" else [execution])
         if do in ACTIONS:
             self._note_action(do, told, execution)
+        of = execution if do in MAKING else self._claimed if do == "claim" else told.get("work", 0)
+        return Did(do, told["by"], told["at"], execution, self.jobs.of(execution), of)
 
-    def _note_purge(self, told: dict[str, Any]) -> None:
+    def _note_purge(self, told: dict[str, Any]) -> Did:
         instance = told["instance"]
         self.executions.note_purged(instance, self.entered)
-        self.open.note_changed(self.executions.newest_of(instance))
+        newest = self.executions.newest_of(instance)
+        self.open.note_changed(newest)
         self.changes.note(self.entered, self.executions.of_instance(instance, PURGED))
         self.actions.note_purge(instance, Action(self.entered, "purge", told["by"], told["at"], 0))
+        return Did("purge", told["by"], told["at"], newest, self.jobs.of(newest), instance)
 
     def _note_action(self, do: str, told: dict[str, Any], execution: int) -> None:
         """Notes what somebody did to a job execution. A restart is noted of both, the earlier one and the one that it made."""
-        made = execution if do in ("start", "restart") else 0
+        made = execution if do in MAKING else 0
         action = Action(self.entered, do, told["by"], told["at"], made or told.get("work", 0))
         self.actions.note(execution, action)
         if not made:
             return
         earlier = told.get("execution")
         self.executions.note_made(execution, earlier, self.entered)
+        self.jobs.note(execution, self.names.name_of(told["job"]) if earlier is None else self.jobs.of(earlier))
         if earlier is not None:
             self.open.note_changed(earlier)
             self.actions.note(earlier, action)
 
     def _execution_of(self, do: str, told: dict[str, Any], answers: Iterator[dict[str, Any]]) -> int:
         """The job execution that an operation is on. Notes who claimed a work item, and which is over."""
-        if do in ("start", "restart"):
+        if do in MAKING:
             return int(next(answers)["execution"])
         if do == "claim":
             return self._note_claim(told, next(answers))
@@ -264,6 +275,7 @@ class Engine:
 
     def _note_claim(self, told: dict[str, Any], reply: dict[str, Any]) -> int:
         work = reply.get("work")
+        self._claimed = 0 if work is None else int(work["work"])
         if work is None:
             return int(reply["closed"])
         place = (work["work"], work["execution"], work["element"], work.get("partition"))

@@ -85,7 +85,7 @@ class Entered:
 
 @dataclass(frozen=True)
 class Search:
-    """Which operations are looked for: those that have a tag, behind so many that are noted, and those with certain lines.
+    """Which operations are looked for: those behind so many that are noted, and those with certain lines.
 
     `noted_line` is a digest of the line of the last one that is noted.
     """
@@ -101,7 +101,7 @@ class Search:
         if before + len(kept) <= self.noted and not self.lines:
             return []
         told = [Found(number, *parted(text)) for number, text in enumerate(kept, before + 1)]
-        return [one for one in told if (one.number > self.noted and one.tag) or one.line in self.lines]
+        return [one for one in told if one.number > self.noted or one.line in self.lines]
 
     def check(self, operations: int) -> None:
         """Raises OtherLog if a log with so many operations lacks some that are noted."""
@@ -134,20 +134,20 @@ def _is_shut(text: bytes) -> bool:
     return not text.startswith(b"111") and text[:3].count(b"1") < 2
 
 
-def _texts(path: Path) -> Iterator[list[bytes]]:
-    """The texts of a file's records, in their order, in lists of some hundreds."""
+def texts(path: Path, offset: int = HEADER_BYTES) -> Iterator[list[bytes]]:
+    """The texts of a file's records from an offset on, in their order, in lists of some hundreds."""
     with path.open("rb") as file:
-        file.read(HEADER_BYTES)
-        while texts := file.readlines(READ_BYTES):
-            count = next((place for place, text in enumerate(texts) if _is_shut(text)), len(texts))
-            yield texts[:count]
-            if count < len(texts):
+        file.seek(offset)
+        while some := file.readlines(READ_BYTES):
+            count = next((place for place, text in enumerate(some) if _is_shut(text)), len(some))
+            yield some[:count]
+            if count < len(some):
                 return
 
 
 def records(path: Path) -> Iterator[LogRecord]:
     """The records of a file, in their order."""
-    for text in chain.from_iterable(_texts(path)):
+    for text in chain.from_iterable(texts(path)):
         mark = text[MARK]
         tag, line = parted(text[LINE]) if mark == OPERATION else (b"", text[LINE])
         yield LogRecord(mark, line, tag)
@@ -155,25 +155,25 @@ def records(path: Path) -> Iterator[LogRecord]:
 
 def operations(path: Path) -> Iterator[list[bytes]]:
     """What a file has kept of its operations, each with its tag, in their order, some hundreds at a time."""
-    for texts in _texts(path):
-        yield [text[LINE] for text in texts if text[MARK] == OPERATION]
+    for some in texts(path):
+        yield [text[LINE] for text in some if text[MARK] == OPERATION]
 
 
 def _fronts(path: Path) -> Iterator[list[bytes]]:
     """The texts of a file's records up to the end of its base."""
     number = 0
-    for texts in _texts(path):
-        count = next((place for place, text in enumerate(texts) if number + place and text[MARK] != BASE), len(texts))
-        yield texts[:count]
-        if count < len(texts):
+    for some in texts(path):
+        count = next((place for place, text in enumerate(some) if number + place and text[MARK] != BASE), len(some))
+        yield some[:count]
+        if count < len(some):
             return
         number += count
 
 
 def base_lines(path: Path) -> Iterator[list[bytes]]:
     """The lines of a file's base, if it has one, some hundreds at a time."""
-    for texts in _fronts(path):
-        lines = [text[LINE] for text in texts if text[MARK] == BASE]
+    for some in _fronts(path):
+        lines = [text[LINE] for text in some if text[MARK] == BASE]
         if lines:
             yield lines
 
@@ -201,8 +201,8 @@ def copy_front(path: Path, copy: Path) -> None:
     """Copies a file up to the end of its base: the copy is a log that ends there."""
     with path.open("rb") as file, copy.open("wb") as made:
         made.write(file.read(HEADER_BYTES))
-        for texts in _fronts(path):
-            made.writelines(texts)
+        for some in _fronts(path):
+            made.writelines(some)
         made.write(SHUT)
 
 

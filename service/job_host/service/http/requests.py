@@ -3,6 +3,7 @@
 from __future__ import annotations
 
 import asyncio
+import ipaddress
 import json
 import re
 from collections import Counter
@@ -16,6 +17,7 @@ from aiohttp import web
 from job_host.archive.folder import ArchiveFolder
 from job_host.protocol.bounds import MOST_NUMBER
 from job_host.protocol.headers import AT_LEAST, CLIENT, OPERATIONS, REQUEST_KEY
+from job_host.protocol.lines import Members
 from job_host.protocol.peers import is_unheard, notice_gone
 from job_host.service.http.access import NAME, Access, Caller
 from job_host.service.keepers.keeper import Keeper
@@ -47,6 +49,15 @@ def number(text: str, what: str) -> int:
 
 def refuse_constant(text: str) -> Any:
     raise ValueError(f"{text} is no JSON")
+
+
+def address_of(request: web.Request) -> str:
+    """The remote address of a request, as an address is written: none that a header names."""
+    try:
+        address = ipaddress.ip_address((request.remote or "").partition("%")[0])
+    except ValueError:
+        return ""
+    return str(getattr(address, "ipv4_mapped", None) or address)
 
 
 class Gate:
@@ -111,6 +122,7 @@ class Asked:
         self.keeper = host.keeper
         self.caller = caller
         self.client = caller.prefix + self._client_name()
+        self.address = address_of(request)
 
     def _client_name(self) -> str:
         name = self.request.headers.get(CLIENT, ANYBODY)
@@ -125,6 +137,10 @@ class Asked:
         if CLIENT not in self.request.headers:
             raise bad_request(f"the header {CLIENT} is needed: it says whose the work item is")
         return self.client
+
+    def call(self, do: str, members: Members, print_of: bytes, **more: Any) -> Call:
+        """A call of this request, by its key, with where it came from."""
+        return Call(self.client, do, members, self.key, print_of, address=self.address, **more)
 
     @property
     def key(self) -> str | None:

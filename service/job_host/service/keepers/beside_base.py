@@ -59,6 +59,7 @@ class BesideBase:
     async def restore(self, beside: Beside, engine: Engine) -> None:
         """Lets an engine that begins with a base know who did what before it."""
         engine.restore_actions(await beside.do(lambda store: store.actions(engine.based)))
+        await beside.do(lambda store: store.audit.fill_jobs(engine.jobs.of))
 
     async def end(self, beside: Beside, engine: Engine, base: KnownBase) -> None:
         """Notes the base, after all behind it is noted. Raises Fatal if a client isn't known that holds a work item."""

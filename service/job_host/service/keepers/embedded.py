@@ -18,6 +18,7 @@ from job_host.catalogue import growth, jobs
 from job_host.catalogue.faults import NoVerdict
 from job_host.catalogue.jobs import ServedJobs
 from job_host.service.history import log_file
+from job_host.service.history.audited import Audited, AuditWanted, Origin
 from job_host.service.history.coprocess import CatalogueRefused, CoProcess, CoProcessEnded
 from job_host.service.history.engine import Engine
 from job_host.service.history.log_file import Beginning, KnownBase, OtherLog, Search
@@ -357,6 +358,12 @@ class EmbeddedKeeper(Keeper):
 
     async def log_ends(self, works: Sequence[int]) -> list[WorkLog]:
         return await self._read(lambda store: store.log_ends(works))
+
+    async def audit(self, wanted: AuditWanted) -> list[Audited]:
+        return await self._read(lambda store: store.audit.wanted(wanted))
+
+    async def origins(self, numbers: Sequence[int]) -> dict[int, Origin]:
+        return await self._read(lambda store: store.audit.origins(numbers))
 
     async def _read(self, read: Callable[[SqliteStore], T]) -> T:
         if self._beside is None:

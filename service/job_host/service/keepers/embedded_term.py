@@ -63,8 +63,8 @@ class EmbeddedTerm(Term):
     def item_of(self, call: Call) -> Item:
         item = super().item_of(call)
         history = self._history if self.engine.is_compact else ""
-        if call.key is not None or history or item.session not in self._named_sessions:
-            item.tag = Tag(call.client, call.key, call.fingerprint, call.is_once, history).written()
+        if call.key is not None or call.address or history or item.session not in self._named_sessions:
+            item.tag = Tag(call.client, call.key, call.fingerprint, call.is_once, history, call.address).written()
         return item
 
     def note_compacted(self) -> None:
@@ -89,6 +89,7 @@ class EmbeddedTerm(Term):
             requests=[request for item in keyed for request in _requests_of(item)],
             clients=self._new_clients([*keyed, *entered]),
             logs=logs,
+            operations=[told for item in entered if (told := item.audited()) is not None],
             last=Noted(entered[-1].number or 0, digest(entered[-1].line)) if entered else None,
             first=next((digest(item.line) for item in entered if item.number == 1), None),
             is_alone=bool(logs) or any(item.number is None for item in keyed),

@@ -16,6 +16,7 @@ from job_host.catalogue.policies import NO_POLICIES, JobPolicies
 from job_host.protocol.lines import query, read
 from job_host.service.history.actions import Action
 from job_host.service.history.answers import Answers
+from job_host.service.history.audited import Audited, AuditWanted, Origin, token_of
 from job_host.service.history.coprocess import CatalogueRefused, CoProcess
 from job_host.service.history.engine import Engine
 from job_host.service.history.work_items import Ended, Held
@@ -134,6 +135,14 @@ class Keeper(ABC):
     @abstractmethod
     async def client_names(self, sessions: Sequence[int]) -> dict[int, str]:
         """The names of these sessions, as far as they are known here."""
+
+    @abstractmethod
+    async def audit(self, wanted: AuditWanted) -> list[Audited]:
+        """The operations that are wanted, the newest first. Of those before a base, what was done to job executions."""
+
+    @abstractmethod
+    async def origins(self, numbers: Sequence[int]) -> dict[int, Origin]:
+        """Who made these operations, as far as it is known here."""
 
     @abstractmethod
     def notes(self) -> PolicyNotes:
@@ -299,7 +308,7 @@ class Keeper(ABC):
         ]
         return told, seen
 
-    async def actions(self, execution: int, page: Page, at_least: int) -> tuple[list[tuple[Action, str | None]], int]:
+    async def actions(self, execution: int, page: Page, at_least: int) -> tuple[list[tuple[Action, Origin]], int]:
         """Who did what to a job execution, the newest first, and how many operations that saw. It may be a purged one."""
         await self.reach(at_least)
         engine, term = self.reading(), self.term
@@ -310,7 +319,8 @@ class Keeper(ABC):
         if instance is None:
             raise Problem("NoSuchJobExecutionException", 404)
         names = {SERVICE_SESSION: SERVICE} | await self.client_names(sorted({one.session for one in found} - {SERVICE_SESSION}))
-        return [(one, names.get(one.session)) for one in found], seen
+        origins = await self.origins([one.operation for one in found])
+        return [(one, known_as(origins.get(one.operation), names.get(one.session))) for one in found], seen
 
     def _remaining(self, work: int) -> float | None:
         """The seconds of a lease that are left. Only the leader knows."""
@@ -357,6 +367,13 @@ class Steps:
             told = read((await self.ask([query("job_executions", instance=instance)]))[0])
             raise of_refusal(told, self.seen) or ValueError(f"job instance {instance} isn't known here")
         return self.engine.executions.of_instance(instance, page)
+
+
+def known_as(origin: Origin | None, name: str | None) -> Origin:
+    """Who made an operation: as it is kept with that, else by the name of its session."""
+    if origin is not None and origin.client is not None:
+        return origin
+    return Origin(name, None if name is None else token_of(name))
 
 
 def needed(engine: Engine, silent: Sequence[Silent]) -> list[Silent]:

@@ -17,6 +17,7 @@ from job_host.catalogue import growth, jobs
 from job_host.catalogue.faults import NoVerdict
 from job_host.catalogue.jobs import ServedJobs
 from job_host.service.history.coprocess import CoProcessEnded
+from job_host.service.history.audited import Audited, AuditWanted, Origin
 from job_host.service.history.engine import Engine, ReplayDiffers
 from job_host.service.keepers.base_making import BaseMaking
 from job_host.service.keepers.due import Due
@@ -375,6 +376,15 @@ class PostgresKeeper(Keeper):
 
     async def log_ends(self, works: Sequence[int]) -> list[WorkLog]:
         return await self._read(lambda store: store.log_ends(works))
+
+    async def audit(self, wanted: AuditWanted) -> list[Audited]:
+        return await self._read(lambda store: store.audit(wanted))
+
+    async def origins(self, numbers: Sequence[int]) -> dict[int, Origin]:
+        """They aren't known while the server doesn't answer."""
+        with suppress(Problem):
+            return await self._read(lambda store: store.origins(numbers))
+        return {}
 
     async def _read(self, read: Callable[[PostgresStore], Awaitable[T]]) -> T:
         if self._store is None:

@@ -18,6 +18,7 @@ from typing import NamedTuple
 from job_host.catalogue.names import PLAIN_NAMES, JobNames
 from job_host.service.history import log_file
 from job_host.service.history.answers import Answers
+from job_host.service.history.audited import Did
 from job_host.service.history.base import read_base
 from job_host.service.history.coprocess import CoProcess
 from job_host.service.history.engine import STATE, Engine
@@ -33,10 +34,11 @@ COPY_FOLDER = "replay"
 
 
 class Told(NamedTuple):
-    """An operation that was looked for, with its reply."""
+    """An operation that was looked for, with its reply, and what it did, if it isn't noted yet."""
 
     found: Found
     reply: bytes
+    did: Did | None
 
 
 # What is done with operations that were looked for, some hundreds at a time, by rising number.
@@ -64,6 +66,25 @@ async def answered(process: CoProcess, parts: Iterable[list[bytes]]) -> AsyncIte
         last = coming
     if last is not None:
         yield last[0], await last[1]
+
+
+def knows_behind(engine: Engine, noted: int) -> bool:
+    """Whether an engine knows what each operation did behind so many that are noted. Of what is kept it forgets that."""
+    recent = engine.recent
+    return noted + 1 >= (recent[0].number if recent else engine.entered + 1)
+
+
+def entered_of(engine: Engine, number: int, lines: Sequence[bytes], replies: Sequence[bytes]) -> dict[int, Did | None]:
+    """Enters those of some operations that an engine hasn't entered, with so many before them.
+
+    Returns what these did, and those that it remembers, by their numbers.
+    """
+    known = max(0, engine.entered - number)
+    did = {record.number: record.did for record in engine.recent}
+    if known < len(lines):
+        engine.enter(lines[known:], replies[known:])
+        did |= dict(enumerate(engine.did, number + known + 1))
+    return did
 
 
 class ReplayedLog:
@@ -99,12 +120,14 @@ class ReplayedLog:
         engine = self._kept
         if engine is not None and engine.is_whole:
             seen = await asyncio.to_thread(log_file.compare, self._path, engine.known, search)
-            replies = {record.number: record.reply for record in engine.recent}
-            told = [Told(one, replies[one.number]) for one in seen.found if one.number in replies]
+            recent = {record.number: record for record in engine.recent}
+            told = [Told(one, *recent[one.number][2:]) for one in seen.found if one.number in recent]
             knows_all = seen.behind == 0 and len(told) == len(seen.found) and engine.state is not None
-            if seen.is_begun_so and (not knows_all or await process.ask_all(STATE) == engine.state):
+            is_so = seen.is_begun_so and (not knows_all or await process.ask_all(STATE) == engine.state)
+            if is_so and knows_behind(engine, search.noted):
                 return engine, told if knows_all else None
-            log.warning("%s isn't what was entered before: all of it is replayed", self._path)
+            if not is_so:
+                log.warning("%s isn't what was entered before: all of it is replayed", self._path)
         self._kept = None
         return await self._begun(process), None
 
@@ -121,11 +144,9 @@ class ReplayedLog:
         async with self._replaying(engine, process) as replayer:
             async for (kept, lines), replies in answered(replayer, log_file.operations(self._path)):
                 found = search.found(number, kept)
-                known = max(0, engine.entered - number)
-                if known < len(lines):
-                    engine.enter(lines[known:], replies[known:])
+                did = entered_of(engine, number, lines, replies)
                 if found:
-                    await note([Told(one, replies[one.number - number - 1]) for one in found])
+                    await note([Told(one, replies[one.number - number - 1], did.get(one.number)) for one in found])
                 number += len(lines)
             search.check(number)
             theirs = await process.ask_all(STATE)

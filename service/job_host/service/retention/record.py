@@ -74,7 +74,7 @@ async def execution_record(keeper: Keeper, execution: int) -> Told:
 
 async def operations(keeper: Keeper, execution: int, page: Page) -> list[Told]:
     found, _ = await keeper.actions(execution, page, 0)
-    return [operation(action, client) for action, client in found]
+    return [operation(action, origin) for action, origin in found]
 
 
 async def work_items(keeper: Keeper, execution: int, page: Page) -> list[Told]:

@@ -15,7 +15,7 @@ from job_host.service.keepers.keeper import Steps
 from job_host.service.pages import USUAL_SIZE, Page
 from job_host.service.problems import bad_request, of_refusal
 from job_host.service.routes import views
-from job_host.service.terms.calls import Call, Kept
+from job_host.service.terms.calls import Kept
 
 
 def answer_of(reply: bytes, seen: int | None = None) -> dict[str, Any]:
@@ -37,7 +37,7 @@ async def start_instance(asked: Asked) -> web.StreamResponse:
     if is_once and asked.key is None:
         raise bad_request(f"a start that says once needs the header {REQUEST_KEY}")
     members = {"job": job, "parameters": body.get("jobParameters", {})}
-    call = Call(asked.client, "start", members, asked.key, fingerprint("start", members), is_once=is_once)
+    call = asked.call("start", members, fingerprint("start", members), is_once=is_once)
     if asked.keeper.is_versioned and isinstance(job, str):
         call = replace(call, resolve=lambda: to_start(asked, members))
     return begun(asked, await asked.keeper.submit(call), 201)
@@ -77,7 +77,7 @@ async def show_instance_of(asked: Asked) -> web.StreamResponse:
 
 async def purge_instance(asked: Asked) -> web.StreamResponse:
     members = {"instance": asked.path_number()}
-    kept = await asked.host.purge(Call(asked.client, "purge", members, asked.key, fingerprint("purge", members)))
+    kept = await asked.host.purge(asked.call("purge", members, fingerprint("purge", members)))
     answer_of(kept.reply, kept.seen)
     return asked.answer({**members, "purged": True}, kept.seen)
 
@@ -94,7 +94,7 @@ async def change_instance(asked: Asked) -> web.StreamResponse:
         return await to_restart(asked, newest, body)
 
     print_of = fingerprint("restart instance", instance, body.get("jobParameters", {}))
-    call = Call(asked.client, "restart", {}, asked.key, print_of, resolve)
+    call = asked.call("restart", {}, print_of, resolve=resolve)
     return begun(asked, await asked.keeper.submit(call), 200)
 
 
@@ -147,10 +147,10 @@ async def change_execution(asked: Asked) -> web.StreamResponse:
     if action == "restart":
         body = await restart_body(asked)
         print_of = fingerprint(action, {**members, "parameters": body.get("jobParameters", {})})
-        call = Call(asked.client, action, {}, asked.key, print_of, lambda: to_restart(asked, execution, body))
+        call = asked.call(action, {}, print_of, resolve=lambda: to_restart(asked, execution, body))
         return begun(asked, await asked.keeper.submit(call), 200)
     expect_members(await asked.body())
-    kept = await asked.keeper.submit(Call(asked.client, action, members, asked.key, fingerprint(action, members)))
+    kept = await asked.keeper.submit(asked.call(action, members, fingerprint(action, members)))
     answer_of(kept.reply, kept.seen)
     return asked.answer({"executionId": execution, "action": action}, kept.seen)
 

@@ -9,6 +9,7 @@ from aiohttp import web
 
 from job_host.protocol.moments import moment
 from job_host.service.history.actions import Action
+from job_host.service.history.audited import Origin
 from job_host.service.history.open_index import RESTARTABLE, Long, Running
 from job_host.service.http.requests import PAGE_WORDS, Asked, Route
 from job_host.service.keepers.late import LateBy
@@ -107,14 +108,14 @@ async def list_operations(asked: Asked) -> web.StreamResponse:
     """Who did what to a job execution, the newest first, page by page. A purge is told, too."""
     page = asked.page(asked.host.settings.bounds.page_size)
     found, seen = await asked.keeper.actions(asked.path_number(), page, asked.at_least)
-    return asked.answer([operation(action, client) for action, client in found], seen)
+    return asked.answer([operation(action, origin) for action, origin in found], seen)
 
 
-def operation(action: Action, client: str | None) -> dict[str, Any]:
+def operation(action: Action, origin: Origin) -> dict[str, Any]:
     return {
         "operation": action.operation,
         "action": action.name,
-        "client": client,
+        **origin._asdict(),
         "time": moment(action.moment),
         "made": action.of if action.name in ("start", "restart") else None,
         "work": action.of if action.name == "lose" else None,

@@ -14,7 +14,6 @@ from job_host.protocol.moments import moment
 from job_host.service.http.parts import FORM, parts_of
 from job_host.service.http.requests import Asked, Route, expect_members
 from job_host.service.problems import Problem, bad_request
-from job_host.service.terms.calls import Call
 from job_host.service.versions.changes import Change, digest_of_file
 
 JSL_SUFFIX, JSON_SUFFIX = ".xml", ".json"
@@ -35,7 +34,7 @@ async def apply_job(asked: Asked) -> web.StreamResponse:
         told = await changes.check(name, file)
         return asked.answer(read(told), asked.keeper.committed)
     print_of = fingerprint("apply", name, file.suffix, digest_of_file(file))
-    call = Call(asked.client, "apply", {}, asked.key, print_of, make=lambda call: changes.apply(call, name, file))
+    call = asked.call("apply", {}, print_of, make=lambda call: changes.apply(call, name, file))
     kept = await asked.keeper.submit(call)
     return asked.answer(read(kept.reply), kept.seen)
 
@@ -68,7 +67,7 @@ async def withdraw_job(asked: Asked) -> web.StreamResponse:
     expect_members(await asked.body())
     changes = asked.keeper.changing()
     print_of = fingerprint("withdraw", name)
-    call = Call(asked.client, "withdraw", {}, asked.key, print_of, make=lambda call: changes.withdraw(call, name))
+    call = asked.call("withdraw", {}, print_of, make=lambda call: changes.withdraw(call, name))
     kept = await asked.keeper.submit(call)
     return asked.answer(read(kept.reply), kept.seen)
 

@@ -3,7 +3,6 @@
 from __future__ import annotations
 
 from contextlib import nullcontext
-from dataclasses import replace
 from typing import Any
 
 from aiohttp import web
@@ -19,7 +18,7 @@ from job_host.service.keepers.workers import Worker, is_draining, workers_page
 from job_host.service.problems import Problem, bad_request
 from job_host.service.routes import views
 from job_host.service.routes.jobs import answer_of
-from job_host.service.terms.calls import Call, Kept
+from job_host.service.terms.calls import Kept
 from job_host.service.versions.book import FileNotKept
 
 # Words of a query that narrow the list of busy work items.
@@ -41,8 +40,9 @@ async def claim(asked: Asked) -> web.StreamResponse:
         raise bad_request(f"wait is a number of seconds from 0 to {longest:g}")
     if "artifacts" in body:
         asked.keeper.leading().workers.note_artifacts(asked.named_client(), artifacts_of(body["artifacts"]))
-    call = Call(asked.named_client(), "claim", {}, asked.key, fingerprint("claim"), wait=float(wait))
-    call = replace(call, is_gone=asked.is_gone, is_unheard=asked.is_unheard)
+    asked.named_client()
+    waiting: dict[str, Any] = {"wait": float(wait), "is_gone": asked.is_gone, "is_unheard": asked.is_unheard}
+    call = asked.call("claim", {}, fingerprint("claim"), **waiting)
     with asked.waiting() if wait > 0 else nullcontext():
         return claimed(asked, await asked.keeper.submit(call))
 
@@ -91,7 +91,8 @@ async def withdraw(asked: Asked) -> web.StreamResponse:
         raise bad_request(f"the header {REQUEST_KEY} is needed: it says which claim is withdrawn")
     expect_members(await asked.body())
     term = asked.keeper.leading()
-    kept = await term.withdraw(Call(asked.named_client(), "claim", {}, asked.key, fingerprint("claim")))
+    asked.named_client()
+    kept = await term.withdraw(asked.call("claim", {}, fingerprint("claim")))
     return asked.answer({"withdrawn": True}, term.committed) if kept is None else claimed(asked, kept)
 
 
@@ -172,9 +173,9 @@ async def change_work(asked: Asked) -> web.StreamResponse:
     expect_members(body, "log", *ACTIONS[action])
     log = log_of(asked, body)
     members: Members = {"work": asked.path_number(), **{name: body[name] for name in ACTIONS[action] if name in body}}
-    client = asked.client if action == "lose" else asked.named_client()
-    call = Call(client, action, members, asked.key, fingerprint(action, members), log=log)
-    kept = await asked.keeper.submit(call)
+    if action != "lose":
+        asked.named_client()
+    kept = await asked.keeper.submit(asked.call(action, members, fingerprint(action, members), log=log))
     told = answer_of(kept.reply, kept.seen)
     if action == "checkpoint":
         asked.keeper.leases.renew(asked.path_number())

@@ -13,7 +13,9 @@ import asyncpg
 
 from job_host.catalogue.jobs import JobFile, SettingsFile
 from job_host.protocol.lines import compact, digest
+from job_host.service.history.audited import Audited, AuditWanted, Origin
 from job_host.service.history.engine import Record
+from job_host.service.stores.postgres_audit import audit_column, origins_of, wanted_of
 from job_host.service.stores.postgres_bases import NEWEST, KeptBase
 from job_host.service.stores.postgres_connection import NotDurable, closed_is_lost, connect_primary, or_drop
 from job_host.service.stores.postgres_migrations import are_current, migrate
@@ -211,6 +213,14 @@ class PostgresStore:
         kept = Kept(rows[0]["reply"].encode(), answers, rows[0]["seen"])
         return KeptRequest(bytes(rows[0]["fingerprint"]), kept)
 
+    async def audit(self, wanted: AuditWanted) -> list[Audited]:
+        """The operations that are wanted, the newest first."""
+        return await wanted_of(self._fetch, wanted)
+
+    async def origins(self, numbers: Sequence[int]) -> dict[int, Origin]:
+        """Who made these operations, as far as it is known."""
+        return await origins_of(self._fetch, numbers)
+
     async def logs(self, wanted: LogPage) -> list[WorkLog]:
         return [WorkLog(*row) for row in await self._fetch(LOGS, *words_of(wanted))]
 
@@ -317,7 +327,7 @@ def without_nul(text: str) -> str:
 
 
 def _columns(items: Sequence[Item], clients: dict[str, int]) -> list[Any]:
-    """The columns of a round's rows, in the order of its statement; and a digest of the history's first operation."""
+    """The columns of a round's rows, in the order of its statement; a digest of the first operation; and who made each."""
     entered = [item for item in items if item.number is not None]
     keyed = [item for item in items if item.is_keyed]
     logs = list({item.log.work: item.log for item in items if item.log is not None}.values())
@@ -340,4 +350,5 @@ def _columns(items: Sequence[Item], clients: dict[str, int]) -> list[Any]:
         [log.partition for log in logs],
         [without_nul(log.text) for log in logs],
         next((digest(item.line) for item in entered if item.number == 1), None),
+        audit_column(entered),
     ]

@@ -45,9 +45,13 @@ ACTIONS = """
 select execution, operation, name, session, moment, of from job_host_action
 where (operation, execution) > ($1, $2) order by operation, execution limit $3
 """
+# Who did it stands in the rows of the operations, which are deleted behind this.
 KEEP_ACTIONS = """
-insert into job_host_action (execution, operation, name, session, moment, of)
-select * from unnest($1::bigint[], $2::bigint[], $3::text[], $4::bigint[], $5::bigint[], $6::bigint[])
+insert into job_host_action (execution, operation, name, session, moment, of, job, client, token, address)
+select a.*, o.job, o.client, o.token, o.address
+from unnest($1::bigint[], $2::bigint[], $3::text[], $4::bigint[], $5::bigint[], $6::bigint[])
+    as a(execution, operation, name, session, moment, of)
+left join job_host_operation o on o.number = a.operation
 on conflict (operation, execution) do nothing
 """
 DROP_ACTIONS = "delete from job_host_action where execution = any($1::bigint[])"

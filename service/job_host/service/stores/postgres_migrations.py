@@ -6,6 +6,7 @@ from collections.abc import Awaitable, Callable
 
 import asyncpg
 
+from job_host.service.stores.postgres_audit import ADD_AUDIT
 from job_host.service.stores.postgres_notifications import ADD_NOTIFICATIONS
 from job_host.service.stores.postgres_schema import (
     ADD_BASES,
@@ -44,8 +45,12 @@ async def add_notifications(connection: asyncpg.Connection) -> None:
     await connection.execute(ADD_NOTIFICATIONS)
 
 
+async def add_audit(connection: asyncpg.Connection) -> None:
+    await connection.execute(ADD_AUDIT)
+
+
 # What brings each version to the next one. They are never changed: a later version has one of its own.
-MIGRATIONS: list[Migration] = [make_tables, add_job_changes, add_bases, add_notifications]
+MIGRATIONS: list[Migration] = [make_tables, add_job_changes, add_bases, add_notifications, add_audit]
 
 
 async def version_of(connection: asyncpg.Connection) -> int:

@@ -128,9 +128,13 @@ with fence as (
     update job_host_leader set beats = beats + 1, first_operation = coalesce(first_operation, $19::text)
     where epoch = $1 returning epoch
 ), operation as (
-    insert into job_host_operation (number, epoch, line, reply, request_key)
-    select o.number, $1, o.line, o.reply, o.request_key
+    insert into job_host_operation (
+        number, epoch, line, reply, request_key, name, session, moment, execution, job, of, client, token, address)
+    select o.number, $1, o.line, o.reply, o.request_key, a.name, a.session, a.moment, a.execution, a.job, a.of, a.client,
+        a.token, a.address
     from unnest($2::bigint[], $3::text[], $4::text[], $5::text[]) as o(number, line, reply, request_key)
+    left join json_to_recordset($20::json) as a(number bigint, name text, session bigint, moment bigint, execution bigint,
+        job text, of bigint, client text, token text, address text) using (number)
     where exists (select from fence)
 ), client as (
     insert into job_host_client (name, session)

@@ -20,7 +20,9 @@ from typing import Any
 
 from job_host.service.history.actions import Action
 from job_host.service.history.log_file import Beginning, KnownBase
+from job_host.service.history.audited import Audited
 from job_host.service.stores.history import History, Rest, history_in
+from job_host.service.stores.sqlite_audit import AuditTable
 from job_host.service.stores.sqlite_notifications import NotificationTable
 from job_host.service.stores.sqlite_schema import migrate, refuse_later
 from job_host.service.terms.calls import (
@@ -114,6 +116,7 @@ class Notes:
     requests: Sequence[Request] = ()
     clients: Mapping[str, int] = field(default_factory=dict)
     logs: Sequence[WorkLog] = ()
+    operations: Sequence[Audited] = ()
     last: Noted | None = None
     # The digest of the first operation of a history, if it is among them.
     first: str | None = None
@@ -122,7 +125,7 @@ class Notes:
 
     @property
     def is_empty(self) -> bool:
-        return not self.requests and not self.clients and not self.logs and self.first is None
+        return not (self.requests or self.clients or self.logs or self.operations) and self.first is None
 
 
 def words_of(wanted: LogPage) -> dict[str, Any]:
@@ -154,6 +157,7 @@ class SqliteStore:
         self._check()
         migrate(self._connection)
         self.notifications = NotificationTable(self._connection)
+        self.audit = AuditTable(self._connection)
 
     def _check(self) -> None:
         """Raises a DatabaseError if the file is damaged."""
@@ -240,6 +244,7 @@ class SqliteStore:
             self._connection.execute("begin")
             self._note_first(notes.first)
             self._connection.executemany(CLIENT, notes.clients.items())
+            self.audit.add(notes.operations)
             self._connection.executemany(REQUEST, [request.row() for request in notes.requests])
             rows = [(log.work, log.execution, log.element, log.partition, log.text) for log in notes.logs]
             self._connection.executemany("insert or replace into work_log values (?, ?, ?, ?, ?)", rows)
@@ -256,22 +261,30 @@ class SqliteStore:
         return [(row[0], Action(*row[1:])) for row in self._connection.execute(statement, (operations,))]
 
     def note_actions(self, actions: Sequence[tuple[int, Action]], gone: Sequence[int]) -> None:
-        """Keeps what was done to job executions, and forgets it of those that are gone."""
+        """Keeps what was done to job executions, by whom, and forgets it of those that are gone."""
         with self._connection:
             self._connection.execute("begin")
             rows = [(execution, *action) for execution, action in actions]
             self._connection.executemany("insert or replace into action values (?, ?, ?, ?, ?, ?)", rows)
+            self.audit.note_done([action.operation for _, action in actions])
             self._connection.executemany("delete from action where execution = ?", [(one,) for one in gone])
+            self.audit.forget_done()
 
     def note_rest(self, rest: Rest) -> None:
         """Keeps how the log stands, all of which is noted. At the end this is on the disk, with what was noted before."""
         self._connection.execute("insert or replace into rest values (1, ?, ?, ?, ?, ?)", rest)
 
     def note_base(self, base: KnownBase, session: int) -> None:
-        """Keeps by what the base of the log is known, unless it is kept already. No session above this one is known."""
+        """Keeps by what the base of the log is known, unless it is kept already. No session above this one is known.
+
+        Of the operations before it, what was done to job executions is kept beside.
+        """
         greatest = self._connection.execute("select max(session) from client").fetchone()[0] or 0
         row = (base.head.operations, base.digest, max(session, greatest))
-        self._connection.execute("insert or ignore into base values (?, ?, ?)", row)
+        with self._connection:
+            self._connection.execute("begin")
+            self._connection.execute("insert or ignore into base values (?, ?, ?)", row)
+            self._connection.execute("delete from operation where number <= ?", (base.head.operations,))
 
     def forget_behind(self, base: KnownBase) -> bool:
         """Forgets what was noted of a log behind its base, and the sessions that weren't known then. Logs of work items stay.
@@ -290,6 +303,8 @@ class SqliteStore:
             statement = "delete from request where seen > :count or (session > :session and session <> :everybody)"
             self._connection.execute(statement, words)
             self._connection.execute("delete from action where operation > :count", words)
+            self._connection.execute("delete from operation where number > :count", words)
+            self.audit.forget_done()
             self._connection.execute("delete from base where operations > :count", words)
             for table in ("client", "client_heard"):
                 self._connection.execute(f"delete from {table} where session > :session", words)
@@ -312,7 +327,7 @@ class SqliteStore:
         """Forgets what was noted of a log, and the replies to refused calls. Logs of work items stay."""
         with self._connection:
             self._connection.execute("begin")
-            for table in ("request", "client", "client_heard", "noted", "rest", "base", "action"):
+            for table in ("request", "client", "client_heard", "noted", "rest", "base", "action", "action_origin", "operation"):
                 self._connection.execute(f"delete from {table}")
 
     def open_requests(self) -> list[OpenRequest]:

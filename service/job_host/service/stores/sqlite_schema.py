@@ -106,8 +106,48 @@ create table if not exists notification (
 """,
     "create index if not exists notification_execution on notification (execution, number)",
 )
+# Who made which operation, by which token, and from where. The operations that the log has are read out of it again. Of what
+# was done before its base an earlier version has kept the client's name, which has the token's. The job is filled in later.
+FIFTH = (
+    """
+create table if not exists operation (
+    number integer primary key,
+    name text not null,
+    session integer not null,
+    moment integer not null,
+    execution integer not null,
+    job text not null,
+    of integer not null,
+    client text,
+    token text,
+    address text
+)
+""",
+    "create index if not exists operation_job on operation (job, number)",
+    "create index if not exists operation_client on operation (client, number)",
+    "create index if not exists operation_token on operation (token, number) where token is not null",
+    """
+create table if not exists action_origin (
+    operation integer primary key,
+    job text,
+    client text,
+    token text,
+    address text
+)
+""",
+    """
+insert or ignore into action_origin (operation, client)
+select operation, case session when 1 then '' else (select name from client where client.session = action.session) end
+from action
+""",
+    """
+update action_origin set token = substr(client, 1, instr(client, '/') - 1)
+where token is null and address is null and instr(client, '/') > 0
+""",
+    "delete from noted",
+)
 # The statements that bring each version to the next one. They are never changed: a later version has statements of its own.
-MIGRATIONS: list[Iterable[str]] = [FIRST, SECOND, THIRD, FOURTH]
+MIGRATIONS: list[Iterable[str]] = [FIRST, SECOND, THIRD, FOURTH, FIFTH]
 
 
 def version_of(connection: sqlite3.Connection) -> int:

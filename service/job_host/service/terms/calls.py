@@ -8,6 +8,7 @@ from dataclasses import dataclass, field
 from typing import Any
 
 from job_host.protocol.lines import Members, is_accepted, read
+from job_host.service.history.audited import Audited, Did, Origin
 from job_host.service.pages import Page
 from job_host.service.versions.changes import Growth
 
@@ -36,7 +37,7 @@ class Call:
     work is given to it. That answer isn't kept: a claim by the same key is a new one. With `is_once` the key is for all
     clients, as long as the job instance that the call made is there. A refusal isn't kept then. A call with `make` is no line
     of batchctl's: that makes it, and gives its reply. `confirm` raises what keeps a call from being made, with no other line
-    between it and the call's own.
+    between it and the call's own. `address` is where the request came from, if it came from elsewhere.
     """
 
     client: str
@@ -52,6 +53,7 @@ class Call:
     is_once: bool = False
     make: Callable[[Call], Awaitable[bytes]] | None = None
     confirm: Callable[[], Awaitable[None]] | None = None
+    address: str = ""
 
 
 @dataclass(frozen=True)
@@ -131,6 +133,7 @@ class Item:
     tag: bytes = b""
     reply: bytes = b""
     number: int | None = None
+    did: Did | None = None
     seen: int = 0
     answers: tuple[bytes, ...] = ()
     is_ready: bool = False
@@ -152,6 +155,12 @@ class Item:
     def key_session(self) -> int:
         """The session under which the request key stands."""
         return EVERYBODY_SESSION if self.call is not None and self.call.is_once else self.session
+
+    def audited(self) -> Audited | None:
+        """The operation that the call became, if it became one, with who made it."""
+        if self.call is None or self.number is None or self.did is None:
+            return None
+        return Audited(self.number, self.did, Origin.of(self.call.client, self.call.address))
 
     def kept(self) -> Kept:
         return Kept(self.reply, self.answers, self.seen)

@@ -222,6 +222,7 @@ class Term(ABC):
         if number is None:
             item.log = None
         else:
+            item.did = self.engine.did[-1]
             self.note_accepted(item.call.client, item.session)
             if item.call.do in REPORTS:
                 self.workers.note_sign(item.call.client)

@@ -1,0 +1,86 @@
+"""Who made which operation, in the SQLite file beside a log.
+
+Those behind the log's base have a table of their own. Of those before it this is kept beside what was done to job executions.
+"""
+
+from __future__ import annotations
+
+import sqlite3
+from collections.abc import Callable, Sequence
+from dataclasses import asdict
+from typing import Any
+
+from job_host.service.history.audited import COLUMNS, Audited, AuditWanted, Origin
+
+# A replay doesn't know the client of a session that its line doesn't name.
+ADD = f"""
+insert or replace into operation ({COLUMNS})
+select :number, :name, :session, :moment, :execution, :job, :of, c.name,
+    coalesce(:token, case when instr(c.name, '/') > 0 then substr(c.name, 1, instr(c.name, '/') - 1) end), :address
+from (select coalesce(:client, (select name from client where session = :session)) as name) c
+"""
+# A restart stands there twice: it was done to the job execution that it made, too.
+BEFORE = """
+select operation as number, name, session, moment, execution, job, of, client, token, address
+from action left join action_origin using (operation)
+where operation < (select coalesce(min(number), :beyond) from operation)
+and (name not in ('start', 'restart') or of = execution)
+"""
+TOLD = f"select {COLUMNS} from operation union all select * from ({BEFORE})"
+WANTED = f"""
+select * from ({TOLD})
+where (:job is null or job = :job) and (:client is null or client = :client) and (:token is null or token = :token)
+and (:since is null or moment >= :since) and (:until is null or moment < :until)
+order by number desc limit :size offset :start
+"""
+ORIGINS = """
+select number, client, token, address from operation where number in (select value from json_each(:numbers))
+union
+select operation, client, token, address from action_origin where operation in (select value from json_each(:numbers))
+and operation < (select coalesce(min(number), :beyond) from operation)
+"""
+NOTE_DONE = """
+insert or replace into action_origin select number, job, client, token, address from operation where number = ?
+"""
+# Above all numbers of operations.
+BEYOND = {"beyond": 2**62}
+
+
+def words_of(audited: Audited) -> dict[str, Any]:
+    return {"number": audited.number, **audited.did._asdict(), **audited.origin._asdict()}
+
+
+class AuditTable:
+    def __init__(self, connection: sqlite3.Connection) -> None:
+        self._connection = connection
+
+    def add(self, operations: Sequence[Audited]) -> None:
+        """Adds operations, in the transaction that is open, behind their clients."""
+        self._connection.executemany(ADD, [words_of(one) for one in operations])
+
+    def wanted(self, wanted: AuditWanted) -> list[Audited]:
+        words = {**asdict(wanted), **wanted.page._asdict(), **BEYOND}
+        del words["page"]
+        return [Audited.read(row) for row in self._connection.execute(WANTED, words)]
+
+    def fill_jobs(self, job_of: Callable[[int], str]) -> None:
+        """Notes the jobs of what an earlier version kept without them."""
+        found = "select operation, execution from action join action_origin using (operation) where job is null"
+        rows = self._connection.execute(found).fetchall()
+        with self._connection:
+            self._connection.execute("begin")
+            filled = [(job_of(execution), operation) for operation, execution in rows]
+            self._connection.executemany("update action_origin set job = ? where operation = ?", filled)
+
+    def note_done(self, operations: Sequence[int]) -> None:
+        """Notes who made these operations beside what was done to job executions, in the transaction that is open."""
+        self._connection.executemany(NOTE_DONE, [(one,) for one in operations])
+
+    def forget_done(self) -> None:
+        """Forgets who did what isn't told any more, in the transaction that is open."""
+        self._connection.execute("delete from action_origin where operation not in (select operation from action)")
+
+    def origins(self, numbers: Sequence[int]) -> dict[int, Origin]:
+        """Who made these operations, as far as it is known."""
+        words: dict[str, Any] = {"numbers": str(list(numbers)), **BEYOND}
+        return {row[0]: Origin(*row[1:]) for row in self._connection.execute(ORIGINS, words)}
