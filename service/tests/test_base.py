@@ -92,7 +92,8 @@ def test_another_base_is_another_log(path: Path) -> None:
 def test_what_is_noted_is_looked_for_behind_the_base(path: Path) -> None:
     lines = [START % 800, START % 900]
     for noted, line in ((20, ""), (21, digest(lines[0])), (22, digest(lines[1]))):
-        assert Search(noted, line).found(20, [b"one\t" + lines[0], lines[1]]) == [(21, b"one", lines[0])][: 21 - noted]
+        found = Search(noted, line).found(20, [b"one\t" + lines[0], lines[1]])
+        assert found == [(21, b"one", lines[0]), (22, b"", lines[1])][noted - 20 :]
     for noted, line in ((21, digest(lines[1])), (22, digest(lines[0]))):
         with pytest.raises(OtherLog):
             Search(noted, line).found(20, lines)
