@@ -327,7 +327,7 @@ async def test_a_store_of_a_version_before_is_brought_to_this_one_and_compacted(
             await table.execute("drop table job_host_base, job_host_base_part, job_host_action")
         await table.execute("update job_host_version set version = $1", version)
     async with running(made) as instance:
-        assert await version_of(made.postgres[0]) == THIS_VERSION == 4
+        assert await version_of(made.postgres[0]) == THIS_VERSION == 5
         assert await instance.service.keeper.notes().marks() == {}
         await check_filled(instance, history)
         assert (await compact(instance)).failure == "" and await bases_in(made) == [(4, 1)]

@@ -90,9 +90,9 @@ def operation_table(told: Sequence[Told], execution: int, in_utc: bool) -> Table
 
 
 def origin_texts(one: Told) -> list[Text]:
-    """Who made an operation, by which token, and from where."""
+    """Who made an operation, by which token, and from where. An archive has older ones without the last two."""
     by = {None: "unknown", "": "the service"}.get(one["client"], one["client"])
-    return [plain(by), plain(one["token"]), plain(one["address"])]
+    return [plain(by), plain(one.get("token")), plain(one.get("address"))]
 
 
 def audit_table(told: Sequence[Told], in_utc: bool) -> Table:
