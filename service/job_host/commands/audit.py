@@ -12,6 +12,7 @@ from job_host.commands.jobs import rows_of
 from job_host.commands.terminal import audit_table
 from job_host.protocol.bounds import PAGE_SIZE
 from job_host.protocol.client import Client
+from job_host.protocol.printable import printable
 
 # Options by the words of the query.
 WORDS = {"jobName": "job", "client": "by_client", "token": "by_token", "from": "since", "until": "until"}
@@ -22,7 +23,10 @@ def words_of(given: argparse.Namespace) -> dict[str, str]:
 
 
 async def audit(client: Client, given: argparse.Namespace) -> int:
-    """Shows operations, the newest first. An operation that comes meanwhile lets no row be shown twice."""
+    """Shows operations, the newest first, or the head of their chain. A row that moves to the next page is shown once."""
+    if given.head:
+        print(printable((await client.read("/batch/audit/head"))["head"]))
+        return 0
     rows: dict[int, Mapping[str, Any]] = {}
     async for row in rows_of(client, "/batch/audit", min(given.count, PAGE_SIZE), **words_of(given)):
         rows.setdefault(row["operation"], row)

@@ -64,6 +64,8 @@ def add_compaction(parser: argparse.ArgumentParser) -> None:
     parser.add_argument("--compact-at", type=time_of_day, metavar="HH:MM", help=at)
     forget = "goes on though request keys from before a compaction are lost: calls that are made again by them are made twice"
     parser.add_argument("--forget-keys", action="store_true", help=f"{forget} (default: the service names the files, and ends)")
+    chain = "chains the operations of the log by their hashes, for `jobhost verify` (default: they aren't chained)"
+    parser.add_argument("--chain", action="store_true", help=chain)
 
 
 def add_notifications(parser: argparse.ArgumentParser) -> None:
@@ -133,9 +135,10 @@ def may_allow(given: argparse.Namespace) -> bool:
 
 def may_compact(given: argparse.Namespace) -> bool:
     """Whether there is a log, if a word is for one."""
-    if not given.postgres or not given.forget_keys:
+    words = [word for word, is_given in (("--forget-keys", given.forget_keys), ("--chain", given.chain)) if is_given]
+    if not given.postgres or not words:
         return True
-    print("jobhost serve: --forget-keys is for a log, and not for --postgres", file=sys.stderr)
+    print(f"jobhost serve: {words[0]} is for a log, and not for --postgres", file=sys.stderr)
     return False
 
 
@@ -161,6 +164,7 @@ def serve_settings(given: argparse.Namespace) -> ServeSettings:
         archive=given.archive,
         compact_at=given.compact_at,
         forget_keys=given.forget_keys,
+        chain=given.chain,
         notify=given.notify,
         notify_secret=given.notify_secret,
         notify_private=given.notify_private,
@@ -237,6 +241,12 @@ def add_catalogue(subcommands: Subcommands[argparse.ArgumentParser]) -> None:
     catalogue.add_catalogue(subcommands)
 
 
+def add_verify(subcommands: Subcommands[argparse.ArgumentParser]) -> None:
+    from job_host.commands import verify
+
+    verify.add_verify(subcommands)
+
+
 def add_archive(subcommands: Subcommands[argparse.ArgumentParser]) -> None:
     from job_host.commands import archive
 
@@ -244,8 +254,8 @@ def add_archive(subcommands: Subcommands[argparse.ArgumentParser]) -> None:
 
 
 # What adds one command. All others are the client's.
-ALONE = {"serve": add_serve, "worker": add_worker, "catalogue": add_catalogue, "archive": add_archive}
-ALL = (add_serve, add_worker, add_changes, add_lists, add_catalogue, add_archive)
+ALONE = {"serve": add_serve, "worker": add_worker, "catalogue": add_catalogue, "archive": add_archive, "verify": add_verify}
+ALL = (add_serve, add_worker, add_changes, add_lists, add_catalogue, add_archive, add_verify)
 
 
 def make_parser(command: str | None = None) -> argparse.ArgumentParser:

@@ -155,6 +155,8 @@ def add_audit(subcommands: Subcommands[argparse.ArgumentParser]) -> None:
     parser.add_argument("--by-token", metavar="NAME", help="shows operations by the token of this name alone (default: by all)")
     time = "a day of UTC, as 2026-11-27, or a time with its zone, as 2026-11-27T10:00:00Z"
     parser.add_argument("--since", metavar="TIME", help=f"shows operations from then on: {time} (default: from the first on)")
+    head = "shows the last operation of the chain and its hash, to be kept elsewhere for `jobhost verify` (default: operations)"
+    parser.add_argument("--head", action="store_true", help=head)
     until = "shows operations up to the end of a day, or before a time"
     parser.add_argument("--until", metavar="TIME", help=f"{until}, written as for --since (default: up to the last)")
     parser.add_argument("--count", type=positive, default=50, help="how many are shown at most (default: %(default)s)")

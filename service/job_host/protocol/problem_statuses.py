@@ -33,6 +33,7 @@ STATUS_OF_PROBLEM = {
     "ForgedRequest": 403,
     "NotFound": 404,
     "NoArchive": 404,
+    "NoChain": 404,
     "MethodNotAllowed": 405,
     "TooSlow": 408,
     "ClientGone": 408,

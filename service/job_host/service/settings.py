@@ -86,6 +86,8 @@ class ServeSettings:
     notify_private: bool = False
     # Goes on though the file beside the log doesn't know what is before the log's base.
     forget_keys: bool = False
+    # Chains the operations of the log by their hashes.
+    chain: bool = False
     bounds: Bounds = field(default_factory=Bounds)
 
     @property

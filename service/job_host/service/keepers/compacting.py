@@ -14,6 +14,7 @@ from job_host.service.history import log_file
 from job_host.service.history.coprocess import CoProcess, CoProcessEnded
 from job_host.service.history.engine import STATE, Engine
 from job_host.service.keepers.batchctl_compact import MOST_SECONDS, can_compact, reason
+from job_host.service.keepers.chaining import Chaining
 from job_host.service.keepers.due import Due
 from job_host.service.keepers.embedded_term import Beside, EmbeddedTerm
 from job_host.service.keepers.exchange import exchange
@@ -57,6 +58,7 @@ class Compacting:
         due: Due,
         reopen: Reopen,
         note: Callable[[Compaction], None],
+        chaining: Chaining | None = None,
     ) -> None:
         self._batchctl = batchctl
         self._path = path
@@ -64,6 +66,7 @@ class Compacting:
         self._due = due
         self._reopen = reopen
         self._note = note
+        self._chaining = chaining
         self._turn = asyncio.Lock()
         self._can: bool | None = None
 
@@ -134,6 +137,8 @@ class Compacting:
         if base is not None:
             log.warning("%s is compacted: %d rows for %d operations", self._path, base.head.rows, base.head.operations)
             await beside.do(partial(SqliteStore.note_base, base=base, session=session))
+            if self._chaining is not None:
+                await asyncio.to_thread(self._chaining.begin)
 
     async def _reopened(self, engine: Engine, state: Sequence[bytes]) -> tuple[CoProcess, str]:
         """A co-process over the compacted log, or over the log as it was, and then why."""

@@ -24,12 +24,13 @@ from job_host.service.history.engine import Engine
 from job_host.service.history.log_file import Beginning, KnownBase, OtherLog, Search
 from job_host.service.keepers.batchctl_compact import COMPACT
 from job_host.service.keepers.beside_base import BesideBase
+from job_host.service.keepers.chaining import Chaining
 from job_host.service.keepers.compacting import Compacting, rest_of
 from job_host.service.keepers.due import Due
 from job_host.service.keepers.embedded_notes import EmbeddedNotes
 from job_host.service.keepers.embedded_term import Beside, EmbeddedTerm
 from job_host.service.keepers.exchange import END_SECONDS, exchange
-from job_host.service.keepers.keeper import Compaction, Fatal, Keeper, check_catalogue, first_of, needed
+from job_host.service.keepers.keeper import ChainHead, Compaction, Fatal, Keeper, check_catalogue, first_of, needed
 from job_host.service.keepers.noting import Noting
 from job_host.service.keepers.opened_log import Arrange, opened
 from job_host.service.keepers.replayed_log import ReplayedLog
@@ -71,8 +72,11 @@ class EmbeddedKeeper(Keeper):
         self._replayed = ReplayedLog(settings.batchctl, self._log, self.names)
         self._before_base = BesideBase(settings.data, self._log, settings.forget_keys)
         self._base: KnownBase | None = None
+        self._chaining = Chaining(self._log) if settings.chain else None
         due = Due(settings.compact_at)
-        self._compacting = Compacting(settings.batchctl, self._log, leases, due, self._reopen_compact, self._note_compaction)
+        self._compacting = Compacting(
+            settings.batchctl, self._log, leases, due, self._reopen_compact, self._note_compaction, self._chaining
+        )
         self._sessions = Sessions({}, settings.bounds.clients)
         self._beside: Beside | None = None
         self._process: CoProcess | None = None
@@ -117,6 +121,8 @@ class EmbeddedKeeper(Keeper):
             store = self._open_store(await asyncio.to_thread(log_file.beginning_of, self._log))
             beside = self._beside = Beside(store, thread)
             self.engine = await self._bring_on(process, beside)
+            if self._chaining is not None:
+                await asyncio.to_thread(self._chaining.begin)
             await self._lead(self.engine, beside)
         except sqlite3.Error as fault:
             raise unavailable("StoreLost", f"{type(fault).__name__}: {fault}") from fault
@@ -240,7 +246,7 @@ class EmbeddedKeeper(Keeper):
         clients = await beside.do(lambda store: store.clients(most))
         self._sessions = Sessions(clients, most, engine.last_session, engine.holding)
         settings = TermSettings(self._settings.history.refuse_from)
-        term = EmbeddedTerm(beside, self.history, engine, self._sessions, settings, self._observers)
+        term = EmbeddedTerm(beside, self.history, self._chaining, engine, self._sessions, settings, self._observers)
         self.term, self.role, self.epoch = term, "leader", self.epoch + 1
         self._begin_changes(term)
         log.warning("serves after %d operations", engine.entered)
@@ -358,6 +364,10 @@ class EmbeddedKeeper(Keeper):
 
     async def log_ends(self, works: Sequence[int]) -> list[WorkLog]:
         return await self._read(lambda store: store.log_ends(works))
+
+    @property
+    def chain_head(self) -> ChainHead | None:
+        return None if self._chaining is None else self._chaining.head
 
     async def audit(self, wanted: AuditWanted) -> list[Audited]:
         return await self._read(lambda store: store.audit.wanted(wanted))

@@ -7,10 +7,12 @@ import sqlite3
 import time
 from collections.abc import Callable, Sequence
 from concurrent.futures import ThreadPoolExecutor
+from functools import partial
 from typing import Any, TypeVar
 
 from job_host.protocol.lines import digest
 from job_host.service.history.tags import Tag
+from job_host.service.keepers.chaining import Chaining
 from job_host.service.problems import unavailable
 from job_host.service.stores.sqlite import Noted, Notes, Request, SqliteStore
 from job_host.service.terms.calls import SERVICE_SESSION, Call, Item, Kept, KeptRequest
@@ -40,12 +42,13 @@ class Beside:
 
 class EmbeddedTerm(Term):
     """An operation is on the disk, with its tag, when batchctl answers. Before a reply leaves, what the log lacks is kept:
-    the reply to a refused call with a key, and the log of a work item.
+    the reply to a refused call with a key, and the log of a work item. The chain is brought on then, if there is one.
     """
 
-    def __init__(self, beside: Beside, history: str, *others: Any) -> None:
+    def __init__(self, beside: Beside, history: str, chaining: Chaining | None, *others: Any) -> None:
         super().__init__(*others)
         self._beside = beside
+        self._chaining = chaining
         self._history = history
         # Sessions whose names the SQLite file has, and those that the log has named since this term began.
         self._noted_sessions = set(self.sessions.numbers())
@@ -80,6 +83,13 @@ class EmbeddedTerm(Term):
         if not notes.is_empty:
             await self._beside.do(lambda store: store.note(notes))
             self._noted_sessions.update(notes.clients.values())
+        await self._chain(notes.last)
+
+    async def _chain(self, last: Noted | None) -> None:
+        """Chains what the log has up to the last operation, if operations are chained."""
+        if self._chaining is not None and last is not None:
+            follow = partial(self._chaining.follow, last.operations)
+            await self._beside.do(lambda store: follow())
 
     def _notes_of(self, items: Sequence[Item]) -> Notes:
         keyed = [item for item in items if item.is_keyed]

@@ -8,7 +8,7 @@ from abc import ABC, abstractmethod
 from collections.abc import AsyncIterator, Awaitable, Mapping, Sequence
 from contextlib import asynccontextmanager
 from dataclasses import dataclass, replace
-from typing import TYPE_CHECKING, Any
+from typing import TYPE_CHECKING, Any, NamedTuple
 
 from job_host.catalogue.jobs import ForWorkers, ServedJobs
 from job_host.catalogue.names import PLAIN_NAMES, VERSIONED_NAMES
@@ -64,6 +64,17 @@ class HeldPage:
         else:
             found = list(held.values())
         return self.page.of([one for one in found if self.execution in (None, one.execution)])
+
+
+class ChainHead(NamedTuple):
+    """The last operation that is chained, its hash in hexadecimal digits, and behind which one the chain's file begins."""
+
+    number: int
+    hash: str
+    begins: int
+
+    def __str__(self) -> str:
+        return f"{self.number}:{self.hash}"
 
 
 @dataclass(frozen=True)
@@ -135,6 +146,11 @@ class Keeper(ABC):
     @abstractmethod
     async def client_names(self, sessions: Sequence[int]) -> dict[int, str]:
         """The names of these sessions, as far as they are known here."""
+
+    @property
+    def chain_head(self) -> ChainHead | None:
+        """The last operation of the chain, if operations are chained here."""
+        return None
 
     @abstractmethod
     async def audit(self, wanted: AuditWanted) -> list[Audited]:

@@ -13,7 +13,7 @@ from job_host.protocol.moments import moment
 from job_host.service.history.actions import MAKING
 from job_host.service.history.audited import Audited, AuditWanted
 from job_host.service.http.requests import PAGE_WORDS, Asked, Route
-from job_host.service.problems import bad_request
+from job_host.service.problems import Problem, bad_request
 
 NAME_WORDS = ("jobName", "client", "token")
 TIME_WORDS = ("from", "until")
@@ -80,6 +80,17 @@ def audited(one: Audited) -> dict[str, Any]:
     }
 
 
+async def show_head(asked: Asked) -> web.StreamResponse:
+    """The last operation of the chain, and its hash. Whoever keeps it elsewhere can tell later if one before was changed."""
+    await asked.keeper.reach(asked.at_least)
+    asked.keeper.reading()
+    head = asked.keeper.chain_head
+    if head is None:
+        raise Problem("NoChain", 404, "the operations aren't chained here: --chain of `jobhost serve` does that over a log")
+    return asked.answer({"operation": head.number, "hash": head.hash, "begins": head.begins, "head": str(head)}, head.number)
+
+
 ROUTES: Sequence[Route] = [
     Route("GET", "/batch/audit", "read", list_audit, (*NAME_WORDS, *TIME_WORDS, *PAGE_WORDS, "atLeast")),
+    Route("GET", "/batch/audit/head", "read", show_head, ("atLeast",)),
 ]

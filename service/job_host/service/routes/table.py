@@ -4,5 +4,5 @@ from __future__ import annotations
 
 from job_host.service.routes import archive, audit, jobs, lists, logs, open_list, pictures, schedules, versions, work
 
-TABLES = (audit, jobs, lists, logs, open_list, pictures, schedules, versions, work, archive)
+TABLES = (jobs, lists, logs, open_list, pictures, schedules, versions, work, archive, audit)
 ROUTES = [route for table in TABLES for route in table.ROUTES]
