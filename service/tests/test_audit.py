@@ -16,14 +16,17 @@ from conftest import Say
 from instances import Caller, Instance, running
 from postgres_bases import compact as compact_tables
 
-from job_host.service.history.audited import MadeJobs, Origin, token_of
+from job_host.service.history.audited import Audited, AuditWanted, Did, MadeJobs, Origin, token_of
+from job_host.service.history.log_file import Head, KnownBase
 from job_host.service.history.numbers import Numbers
 from job_host.service.http import requests
 from job_host.service.keepers.embedded import LOG_NAME
+from job_host.service.pages import Page
 from job_host.service.settings import ServeSettings
 from job_host.service.stores import sqlite_schema
 from job_host.service.stores.beside_files import STORE_NAME
-from job_host.service.stores.sqlite import SqliteStore
+from job_host.service.stores.sqlite import Notes, SqliteStore
+from job_host.service.stores.sqlite_audit import wanted_in
 
 Make = Callable[..., ServeSettings]
 
@@ -198,6 +201,21 @@ async def test_what_a_base_replaces_is_kept_with_what_was_done(based: Make, toke
         assert seen(await audit(instance))[-1] == purged
 
 
+def test_rows_before_a_base_are_dropped_some_at_a_time(tmp_path: Path) -> None:
+    """They aren't told of before that, and those behind it stay."""
+    store = SqliteStore(tmp_path / STORE_NAME)
+    did = Did("claim", 2, 10, 1, "short", 1)
+    store.note(Notes(operations=[Audited(number, did, Origin("one")) for number in range(1, 8)]))
+    store.note_base(KnownBase(Head(5, 1, 1, 1, 0), "digest", 0), 2)
+    wanted = AuditWanted(Page(0, 50))
+    assert [one.number for one in wanted_in(tmp_path / STORE_NAME, wanted)] == [7, 6]
+    assert list(store.audit.origins([4, 5, 6])) == [6]
+    assert [store.audit.drop_based(2) for _ in range(4)] == [True, True, False, False]
+    with closing(sqlite3.connect(tmp_path / STORE_NAME)) as beside:
+        assert beside.execute("select group_concat(number) from operation").fetchone() == ("6,7",)
+    store.close()
+
+
 async def test_a_file_that_is_lost_is_read_out_of_the_log(embedded: Make, tokens: Path) -> None:
     made = embedded(tokens=tokens)
     async with running(made) as instance:
@@ -246,6 +264,7 @@ def test_the_actions_of_an_earlier_file_get_their_clients(tmp_path: Path) -> Non
             insert into client values ('ops/anna', 2), ('old', 3);
             insert into action values (1, 4, 'start', 2, 10, 1), (1, 5, 'stop', 3, 11, 0), (1, 6, 'lose', 1, 12, 7),
                 (2, 8, 'start', 9, 13, 2);
+            insert into base values (8, 'digest', 9);
             """
         )
     store = SqliteStore(path)

@@ -40,6 +40,7 @@ from job_host.service.stores.beside_files import STORE_NAME
 from job_host.service.stores.notifications import PolicyNotes
 from job_host.service.stores.private_folder import make_private
 from job_host.service.stores.sqlite import SqliteStore, refuse_later_file
+from job_host.service.stores.sqlite_audit import wanted_in
 from job_host.service.stores.versions import LaterVersion
 from job_host.service.terms.calls import LogPage, LogSize, WorkLog
 from job_host.service.terms.leases import Leases
@@ -342,6 +343,8 @@ class EmbeddedKeeper(Keeper):
         while True:
             while await beside.do(lambda store: store.drop_old_keys(days, PRUNED)):
                 pass
+            while await beside.do(lambda store: store.audit.drop_based(PRUNED)):
+                pass
             once = await self.of_purged(await beside.do(lambda store: store.old_once(days)))
             await beside.do(lambda store, once=once: store.drop_once(once))  # type: ignore[misc]
             gone = await self.purged(await beside.do(lambda store: store.logged_executions()))
@@ -370,7 +373,12 @@ class EmbeddedKeeper(Keeper):
         return None if self._chaining is None else self._chaining.head
 
     async def audit(self, wanted: AuditWanted) -> list[Audited]:
-        return await self._read(lambda store: store.audit.wanted(wanted))
+        if self._beside is None:
+            raise unavailable("Starting", "the history isn't here yet")
+        try:
+            return await asyncio.to_thread(wanted_in, self._settings.data / STORE_NAME, wanted)
+        except sqlite3.Error as fault:
+            raise unavailable("StoreLost", f"{type(fault).__name__}: {fault}") from fault
 
     async def origins(self, numbers: Sequence[int]) -> dict[int, Origin]:
         return await self._read(lambda store: store.audit.origins(numbers))

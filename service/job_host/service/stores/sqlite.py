@@ -275,16 +275,10 @@ class SqliteStore:
         self._connection.execute("insert or replace into rest values (1, ?, ?, ?, ?, ?)", rest)
 
     def note_base(self, base: KnownBase, session: int) -> None:
-        """Keeps by what the base of the log is known, unless it is kept already. No session above this one is known.
-
-        Of the operations before it, what was done to job executions is kept beside.
-        """
+        """Keeps by what the base of the log is known, unless it is kept already. No session above this one is known."""
         greatest = self._connection.execute("select max(session) from client").fetchone()[0] or 0
         row = (base.head.operations, base.digest, max(session, greatest))
-        with self._connection:
-            self._connection.execute("begin")
-            self._connection.execute("insert or ignore into base values (?, ?, ?)", row)
-            self._connection.execute("delete from operation where number <= ?", (base.head.operations,))
+        self._connection.execute("insert or ignore into base values (?, ?, ?)", row)
 
     def forget_behind(self, base: KnownBase) -> bool:
         """Forgets what was noted of a log behind its base, and the sessions that weren't known then. Logs of work items stay.

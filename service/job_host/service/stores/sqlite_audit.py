@@ -7,7 +7,9 @@ from __future__ import annotations
 
 import sqlite3
 from collections.abc import Callable, Sequence
+from contextlib import closing
 from dataclasses import asdict
+from pathlib import Path
 from typing import Any
 
 from job_host.service.history.audited import COLUMNS, Audited, AuditWanted, Origin
@@ -19,31 +21,37 @@ select :number, :name, :session, :moment, :execution, :job, :of, c.name,
     coalesce(:token, case when instr(c.name, '/') > 0 then substr(c.name, 1, instr(c.name, '/') - 1) end), :address
 from (select coalesce(:client, (select name from client where session = :session)) as name) c
 """
+# Rows of operations before the newest base are dropped by and by.
+BASED = "(select coalesce(max(operations), 0) from base)"
 # A restart stands there twice: it was done to the job execution that it made, too.
-BEFORE = """
+BEFORE = f"""
 select operation as number, name, session, moment, execution, job, of, client, token, address
 from action left join action_origin using (operation)
-where operation < (select coalesce(min(number), :beyond) from operation)
-and (name not in ('start', 'restart') or of = execution)
+where operation <= {BASED} and (name not in ('start', 'restart') or of = execution)
 """
-TOLD = f"select {COLUMNS} from operation union all select * from ({BEFORE})"
 WANTED = f"""
-select * from ({TOLD})
-where (:job is null or job = :job) and (:client is null or client = :client) and (:token is null or token = :token)
-and (:since is null or moment >= :since) and (:until is null or moment < :until)
-order by number desc limit :size offset :start
+select * from (select {COLUMNS} from operation where number > {BASED} union all select * from ({BEFORE}))
+where {{}} order by number desc limit :size offset :start
 """
-ORIGINS = """
-select number, client, token, address from operation where number in (select value from json_each(:numbers))
+# Only those that are asked for: so a name is found by its index.
+CONDITIONS = {
+    "job": "job = :job",
+    "client": "client = :client",
+    "token": "token = :token",
+    "since": "moment >= :since",
+    "until": "moment < :until",
+}
+ORIGINS = f"""
+select number, client, token, address from operation
+where number in (select value from json_each(:numbers)) and number > {BASED}
 union
-select operation, client, token, address from action_origin where operation in (select value from json_each(:numbers))
-and operation < (select coalesce(min(number), :beyond) from operation)
+select operation, client, token, address from action_origin
+where operation in (select value from json_each(:numbers)) and operation <= {BASED}
 """
+DROP_BASED = f"delete from operation where number in (select number from operation where number <= {BASED} limit ?)"
 NOTE_DONE = """
 insert or replace into action_origin select number, job, client, token, address from operation where number = ?
 """
-# Above all numbers of operations.
-BEYOND = {"beyond": 2**62}
 
 
 def words_of(audited: Audited) -> dict[str, Any]:
@@ -58,10 +66,10 @@ class AuditTable:
         """Adds operations, in the transaction that is open, behind their clients."""
         self._connection.executemany(ADD, [words_of(one) for one in operations])
 
-    def wanted(self, wanted: AuditWanted) -> list[Audited]:
-        words = {**asdict(wanted), **wanted.page._asdict(), **BEYOND}
-        del words["page"]
-        return [Audited.read(row) for row in self._connection.execute(WANTED, words)]
+    def drop_based(self, most: int) -> bool:
+        """Drops some rows of operations before the newest base, and returns whether there may be more."""
+        with self._connection:
+            return self._connection.execute(DROP_BASED, (most,)).rowcount == most
 
     def fill_jobs(self, job_of: Callable[[int], str]) -> None:
         """Notes the jobs of what an earlier version kept without them."""
@@ -82,5 +90,15 @@ class AuditTable:
 
     def origins(self, numbers: Sequence[int]) -> dict[int, Origin]:
         """Who made these operations, as far as it is known."""
-        words: dict[str, Any] = {"numbers": str(list(numbers)), **BEYOND}
+        words = {"numbers": str(list(numbers))}
         return {row[0]: Origin(*row[1:]) for row in self._connection.execute(ORIGINS, words)}
+
+
+def wanted_in(path: Path, wanted: AuditWanted) -> list[Audited]:
+    """The operations of a file that are wanted, the newest first. By a connection of its own: no commit waits for it."""
+    given = {name: value for name, value in asdict(wanted).items() if name in CONDITIONS and value is not None}
+    statement = WANTED.format(" and ".join(["true", *(CONDITIONS[name] for name in given)]))
+    with closing(sqlite3.connect(f"{path.resolve().as_uri()}?mode=ro", uri=True)) as connection:
+        connection.execute("pragma busy_timeout = 5000")
+        rows = connection.execute(statement, {**given, **wanted.page._asdict()})
+        return [Audited.read(row) for row in rows]
