@@ -14,6 +14,7 @@ from aiohttp.test_utils import make_mocked_request
 from based import compact as compact_log
 from conftest import Say
 from instances import Caller, Instance, running
+from kept import engine_of, until_epoch
 from postgres_bases import compact as compact_tables
 
 from job_host.service.history.audited import Audited, AuditWanted, Did, MadeJobs, Origin, token_of
@@ -223,6 +224,19 @@ async def test_a_file_that_is_lost_is_read_out_of_the_log(embedded: Make, tokens
         rows = await audit(instance)
     (made.data / STORE_NAME).unlink()
     async with running(made) as instance:
+        assert await audit(instance) == rows
+
+
+async def test_a_file_that_is_lost_while_the_service_goes_on_is_read_out_of_the_log(embedded: Make, tokens: Path) -> None:
+    """The engine that goes on has forgotten what those operations did, so the log is replayed."""
+    made = embedded(tokens=tokens)
+    async with running(made) as instance:
+        await make_night(instance)
+        rows = await audit(instance)
+        with closing(sqlite3.connect(made.data / STORE_NAME, isolation_level=None)) as beside:
+            beside.executescript("delete from noted; delete from operation")
+        engine_of(instance).process.kill()
+        await until_epoch(instance, 2)
         assert await audit(instance) == rows
 
 
