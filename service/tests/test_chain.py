@@ -18,6 +18,7 @@ from kept import engine_of, make_some, until_epoch
 
 from job_host.commands.command_line import main
 from job_host.service.history import chain as chains
+from job_host.service.history import log_file
 from job_host.service.history.chain import CHAIN_NAME, NO_BASE, ZERO, KeptChain, Start, link, read_chain, written
 from job_host.service.history.chain_compared import compare
 from job_host.service.keepers.chaining import Chaining
@@ -381,6 +382,7 @@ async def test_a_base_whose_rows_were_changed_is_found(compacting: Make, capsys:
         await make_some(instance.url)
         await compact(instance)
         await Caller(instance.url).start("wide")
+        head = (await ask_head(Caller(instance.url)))["head"]
     data = log.read_bytes()
     assert data.count(b'"date":"day-wide"') == 1
     log.write_bytes(data.replace(b'"date":"day-wide"', b'"date":"day-late"'))
@@ -391,6 +393,14 @@ async def test_a_base_whose_rows_were_changed_is_found(compacting: Make, capsys:
         "the log has a base behind operation 10, and the chain begins behind operation 10, with other rows, or ends before",
     )
     assert f"{log} isn't as {made.data / CHAIN_NAME} has it: the log has a base behind operation 10" in begun(log)
+    start = kept_of(made).start
+    rows = log_file.known_base(log)
+    assert rows is not None
+    made.data.joinpath(CHAIN_NAME).write_bytes(start._replace(digest=rows.digest).line())
+    Chaining(log).begin()
+    assert (await asyncio.to_thread(verified, log, capsys, *words))[0] == 0
+    told = "operation 11 has another hash than the head: one up to it was changed, with the chain"
+    assert await asyncio.to_thread(verified, log, capsys, *words, "--head", head) == (1, [told])
 
 
 async def test_a_crash_between_the_base_and_its_chain_loses_nothing(
