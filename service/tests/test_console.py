@@ -207,7 +207,8 @@ def test_stop_lose_abandon_and_purge_by_clicks(
     browser.click("dialog [data-confirm=Abandon]")
     browser.see("Job execution 1 of patient \u2298 ABANDONED")
     done = [" ".join(row.text.split()[1:-2]) for row in browser.all("section[data-key='Who did what'] tbody tr")]
-    assert done == ["abandon console", "stop console", "lose, work item 1 console", "start tester"]
+    what = ["abandon console", "stop console", "lose, work item 1 console", "start tester"]
+    assert done == [f"{each} 127.0.0.1" for each in what]
     browser.click("[data-action=purge]")
     browser.see("Purge job instance 1 of patient?", "dialog")
     browser.see("Its job execution 1, with all its steps, checkpoints and logs, is removed for good.", "dialog")
