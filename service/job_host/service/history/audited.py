@@ -5,7 +5,7 @@ from __future__ import annotations
 from array import array
 from collections.abc import Iterable
 from dataclasses import dataclass
-from typing import NamedTuple
+from typing import Any, NamedTuple
 
 from job_host.service.history.numbers import Numbers
 from job_host.service.pages import Page
@@ -57,14 +57,10 @@ class Audited(NamedTuple):
     origin: Origin
 
     @classmethod
-    def read(cls, row: Iterable[object]) -> Audited:
+    def read(cls, row: Iterable[Any]) -> Audited:
         """One of a row of a store, in the order of COLUMNS."""
-        number, name, session, moment, execution, job, of, client, token, address = row
-        did = Did(name, session, moment, execution or 0, job or "", of or 0)  # type: ignore[arg-type]
-        return cls(number, did, Origin(client, token, address))  # type: ignore[arg-type]
-
-    def row(self) -> tuple[object, ...]:
-        return (self.number, *self.did, *self.origin)
+        number, name, session, moment, execution, job, of, *origin = row
+        return cls(number, Did(name, session, moment, execution or 0, job or "", of or 0), Origin(*origin))
 
 
 # The columns of both stores.

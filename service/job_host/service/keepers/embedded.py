@@ -61,6 +61,12 @@ PRUNED = 5_000
 LOG_NAME = "history.log"
 
 
+async def drop_all(beside: Beside, drop_some: Callable[[SqliteStore], bool]) -> None:
+    """Drops what is to go, some at a time, so that commits come between."""
+    while await beside.do(drop_some):
+        pass
+
+
 class EmbeddedKeeper(Keeper):
     """One instance, which always leads."""
 
@@ -341,10 +347,8 @@ class EmbeddedKeeper(Keeper):
     async def _prune(self, beside: Beside, term: EmbeddedTerm) -> None:
         days = self._settings.bounds.days_of_keys
         while True:
-            while await beside.do(lambda store: store.drop_old_keys(days, PRUNED)):
-                pass
-            while await beside.do(lambda store: store.audit.drop_based(PRUNED)):
-                pass
+            await drop_all(beside, lambda store: store.drop_old_keys(days, PRUNED))
+            await drop_all(beside, lambda store: store.audit.drop_based(PRUNED))
             once = await self.of_purged(await beside.do(lambda store: store.old_once(days)))
             await beside.do(lambda store, once=once: store.drop_once(once))  # type: ignore[misc]
             gone = await self.purged(await beside.do(lambda store: store.logged_executions()))

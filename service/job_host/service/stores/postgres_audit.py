@@ -4,6 +4,7 @@ from __future__ import annotations
 
 import json
 from collections.abc import Awaitable, Callable, Sequence
+from dataclasses import asdict
 from typing import Any
 
 from job_host.service.history.audited import COLUMNS, Audited, AuditWanted, Origin
@@ -50,27 +51,26 @@ from (select operation as number, name, session, moment, execution, job, of, add
     from job_host_action o where name not in ('start', 'restart') or of = execution) d
 """
 # A restart stands in the table of what was done twice: it was done to the job execution that it made, too.
-TOLD = f"""
-select {COLUMNS} from job_host_operation where name is not null and {BEHIND}
-union all {UNNAMED}
-union all {DONE}
-"""
-WANTED = f"""
-select {COLUMNS} from ({TOLD}) o
-where ($1::text is null or job = $1) and ($2::text is null or client = $2) and ($3::text is null or token = $3)
-and ($4::bigint is null or moment >= $4) and ($5::bigint is null or moment < $5)
-order by number desc offset $6 limit $7
-"""
-ORIGINS = f"""
-select number, client, token, address from ({TOLD}) o where number = any($1::bigint[])
-"""
+NAMED_ROWS = f"select {COLUMNS} from job_host_operation where name is not null and {BEHIND}"
+ARMS = (NAMED_ROWS, UNNAMED, DONE)
+# Each arm gives no more rows than the page needs, by an index.
+ARM = "(select * from ({arm}) a where {conditions} order by number desc limit $1::bigint + $2::bigint)"
+WANTED = f"select {COLUMNS} from ({{arms}}) o order by number desc offset $1::bigint limit $2::bigint"
+# Only those that are asked for: so a name is found by its index.
+CONDITIONS = {"job": "job = ", "client": "client = ", "token": "token = ", "since": "moment >= ", "until": "moment < "}
+ORIGINS = " union all ".join(
+    f"select number, client, token, address from ({arm}) a where number = any($1::bigint[])" for arm in ARMS
+)
+
 Fetch = Callable[..., Awaitable[list[Any]]]
 
 
 async def wanted_of(fetch: Fetch, wanted: AuditWanted) -> list[Audited]:
     """The operations that are wanted, the newest first."""
-    words = (wanted.job, wanted.client, wanted.token, wanted.since, wanted.until)
-    return [Audited.read(row) for row in await fetch(WANTED, *words, *wanted.page)]
+    given = {name: value for name, value in asdict(wanted).items() if name in CONDITIONS and value is not None}
+    conditions = " and ".join(["true", *(f"{CONDITIONS[name]}${place}" for place, name in enumerate(given, 3))])
+    arms = " union all ".join(ARM.format(arm=arm, conditions=conditions) for arm in ARMS)
+    return [Audited.read(row) for row in await fetch(WANTED.format(arms=arms), *wanted.page, *given.values())]
 
 
 async def origins_of(fetch: Fetch, numbers: Sequence[int]) -> dict[int, Origin]:
