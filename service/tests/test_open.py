@@ -367,21 +367,21 @@ async def test_who_did_what_is_shown_with_the_status(settings: Make, say: Say, m
         async def rows(*words: str) -> list[list[str]]:
             told = (await say(instance.url, "status", *words, "--utc"))[1]
             cells = [[cell.strip() for cell in line.split("│")[1:-1]] for line in told.splitlines() if line.startswith("│")]
-            return [row[:3] for row in cells if len(row) == 4]
+            return [row[:5] for row in cells if row[0].isdigit()]
 
         async with asyncio.timeout(20):
             while await desk.status(1) != "FAILED":
                 await asyncio.sleep(0.05)
         await desk.change(1, "restart")
         expected = [
-            ["4", "restart, job execution 2", "desk"],
-            ["3", "lose, work item 1", "the service"],
-            ["1", "start", "desk"],
+            ["4", "restart, job execution 2", "desk", "", "127.0.0.1"],
+            ["3", "lose, work item 1", "the service", "", ""],
+            ["1", "start", "desk", "", "127.0.0.1"],
         ]
         assert await rows("1") == expected
         await desk.change(2, "stop")
         await desk.ask("DELETE", "/batch/jobinstances/1")
-        assert await rows("1") == [["6", "purge", "desk"], *expected]
+        assert await rows("1") == [["6", "purge", "desk", "", "127.0.0.1"], *expected]
         status, told = await say(instance.url, "status", "1")
         assert status == 1 and told.splitlines()[-1] == "jobhost: NoSuchJobExecutionException"
         assert await say(instance.url, "status", "9") == (1, "jobhost: NoSuchJobExecutionException\n")
