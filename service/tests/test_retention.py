@@ -14,6 +14,8 @@ import pytest
 from conftest import SHORT, batchlet
 from instances import Caller, Instance, until
 from job_versions import fail_one, job_file, write_jobs
+from kept import engine_of
+from postgres_bases import compact, keeper_of
 from retained import Later, archived, ended, purged_by, retaining, until_round, with_clock
 
 from job_host.commands.command_line import make_parser, serve_settings
@@ -451,6 +453,79 @@ async def test_the_instance_that_takes_over_goes_on(settings: Make, monkeypatch:
         assert second.service.keeper.operations == 16
     finally:
         await second.stop()
+
+
+@pytest.mark.parametrize("begins", ["before the base", "behind the base"])
+async def test_whoever_takes_over_purges_what_ended_before_a_base_and_behind_it(
+    basing: Make, monkeypatch: pytest.MonkeyPatch, begins: str
+) -> None:
+    """Also an instance that has noted the base, and one that knows nothing else of what was before it."""
+    monkeypatch.setattr(rounds, "PURGES_A_SECOND", 5)
+    clock = Later(0)
+    first, second = [with_clock(basing(keep_days=1), clock) for _ in range(2)]
+    try:
+        await first.start()
+        await first.until_role("leader")
+        caller = Caller(first.url)
+        executions = [await ended(caller, "short", "COMPLETED") for _ in range(2)]
+        if begins == "before the base":
+            await second.start()
+            await second.until_role("follower")
+        assert not (await compact(first)).failure
+        executions += [await ended(caller, "short", "COMPLETED") for _ in range(2)]
+        if begins == "behind the base":
+            await second.start()
+            await second.until_role("follower")
+        clock.days = 1.1
+
+        async def has_begun() -> bool:
+            return first.service.retention.last.purged >= 1
+
+        await until(has_begun)
+        await first.stop()
+        await second.until_role("leader")
+        await until_round(second)
+        assert await purged_by(Caller(second.url), executions) == dict.fromkeys(executions, "")
+        assert second.service.keeper.operations == 16
+    finally:
+        await second.stop()
+
+
+def failing_once(store: Any, is_kept: bool) -> None:
+    """The commit of the first purge fails, or its answer doesn't come."""
+    commit = store.commit
+
+    async def commit_or_fail(epoch: int, items: Sequence[Item], clients: dict[str, int]) -> bool:
+        has_purge = any(item.call is not None and item.call.do == "purge" for item in items)
+        if is_kept or not has_purge:
+            stands = await commit(epoch, items, clients)
+        if has_purge:
+            raise ConnectionError("the connection is lost")
+        return bool(stands)
+
+    store.commit = commit_or_fail
+
+
+@pytest.mark.parametrize("harm", ["batchctl", "commit", "answer"])
+async def test_a_purge_that_fails_behind_a_base_is_made_later_and_once(basing: Make, harm: str) -> None:
+    """By the same leader, which begins again with the base, or goes on with what it knew."""
+    clock = Later(0)
+    async with retaining(basing(keep_days=1), clock) as instance:
+        caller = Caller(instance.url)
+        executions = [await ended(caller, "short", "COMPLETED") for _ in range(2)]
+        assert not (await compact(instance)).failure
+        executions += [await ended(caller, "short", "COMPLETED") for _ in range(2)]
+        await until_round(instance)
+        if harm == "batchctl":
+            engine_of(instance).process.kill()
+        else:
+            failing_once(keeper_of(instance)._store, harm == "answer")
+        clock.days = 1.1
+        await instance.until_role("starting")
+        await instance.until_role("leader")
+        await until_round(instance)
+        assert await purged_by(caller, executions) == dict.fromkeys(executions, "")
+        assert engine_of(instance).actions.purges_by[SERVICE_SESSION] == 4 and instance.service.keeper.operations == 16
 
 
 async def test_without_its_archive_nothing_is_purged(either: Make, tmp_path: Path, caplog: pytest.LogCaptureFixture) -> None:
