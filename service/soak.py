@@ -372,18 +372,22 @@ def operations_of_log(parts: Parts) -> list[Operation]:
     return [Operation(number, record.line, reply, tag.key if tag else None) for number, (record, reply, tag) in told]
 
 
-async def until_quiet(parts: Parts) -> None:
-    """Waits until no job execution is unfinished, as long as their number changes."""
+async def until_quiet(parts: Parts, least: int) -> int:
+    """Waits until no job execution is unfinished, as long as their number changes. Returns how many operations that saw.
+
+    So many it sees at least. One that lags may know neither what was started last nor what was restarted.
+    """
     before: dict[str, int] = {}
     changed = time.monotonic()
     while time.monotonic() < changed + QUIET_SECONDS * parts.slowness:
         for service in parts.services:
             try:
-                counts = (await Caller(service.url).ask("GET", "/batch/jobs")).told["statusCounts"]
+                answer = await Caller(service.url).ask("GET", f"/batch/jobs?atLeast={least}")
+                counts = answer.told["statusCounts"]
             except (aiohttp.ClientError, KeyError, OSError):
                 continue
             if not counts.keys() & UNFINISHED:
-                return
+                return answer.operations or 0
             if counts != before:
                 before, changed = counts, time.monotonic()
         await asyncio.sleep(0.5)
@@ -435,7 +439,7 @@ async def work_under_faults(parts: Parts, plan: Plan, names: Iterable[str] | Non
     await asyncio.sleep(1.0)
     ending.set()
     await until_answered(parts, running)
-    await until_quiet(parts)
+    await until_quiet(parts, max((call.operations for call in seen.calls), default=0))
     parts.stop()
     return seen, faults.made
 

@@ -182,23 +182,28 @@ class Nights:
         await asyncio.gather(*(one.night(part) for one, part in zip(self._starters, parts)))
 
     async def _until_over(self) -> None:
-        """Returns after all has ended, and nothing is FAILED that is restarted now."""
-        while True:
-            await until_quiet(self.parts)
-            if await self._mender.mend() == 0:
-                return
+        """Returns after all has ended, and nothing is FAILED that is restarted now.
+
+        Nobody else restarts meanwhile: what is restarted between the two looks is neither unfinished at the first nor FAILED at
+        the second, and would end on another day.
+        """
+        async with self._mender.turn:
+            while True:
+                self.parts.note_told(await until_quiet(self.parts, self.parts.told))
+                if await self._mender.mend() == 0:
+                    return
 
     async def _each_failed(self) -> set[int]:
         """The job instances whose newest job execution is FAILED."""
         told = await self._reader.get_all(f"/batch/jobexecutions?status=FAILED&mostRecent=true&pageSize={PAGE}")
         return {one["instanceId"] for one in told["jobExecutions"]}
 
-    async def _each_newest(self) -> set[int]:
-        """The job instances that the service tells."""
-        found: set[int] = set()
+    async def _each_newest(self) -> dict[int, str]:
+        """The job instances that the service tells, and since when each is in its batch status."""
+        found: dict[int, str] = {}
         for page in range(1_000):
             told = await self._reader.get_all(f"/batch/jobexecutions?mostRecent=true&page={page}&pageSize={PAGE}")
-            found |= {one["instanceId"] for one in told["jobExecutions"]}
+            found |= {one["instanceId"]: f"{one['batchStatus']} at {one['lastUpdatedTime']}" for one in told["jobExecutions"]}
             if not told["more"]:
                 break
         return found
@@ -211,12 +216,13 @@ class Nights:
         until = time.monotonic() + PURGE_SECONDS * self.parts.slowness
         while True:
             found = await self._each_newest()
-            if not kept <= found:
-                raise Wrong(f"night {night}: the job instances {sorted(kept - found)} are gone")
-            if not found & old - kept:
+            if not kept <= found.keys():
+                raise Wrong(f"night {night}: the job instances {sorted(kept - found.keys())} are gone")
+            left = {one: found[one] for one in sorted(found.keys() & old - kept)}
+            if not left:
                 break
             if time.monotonic() > until:
-                raise Wrong(f"night {night}: the job instances {sorted(found & old - kept)} aren't purged")
+                raise Wrong(f"night {night}: the job instances {left} aren't purged")
             await asyncio.sleep(0.2)
         self.compared["job instances behind a night"] += len(found)
 

@@ -59,7 +59,7 @@ class NightClient(SoakClient):
             raise
         if answer.status == 503:
             self._url = None
-        self._nights.told = max(self._nights.told, answer.operations or 0)
+        self._nights.note_told(answer.operations or 0)
         return answer
 
     async def get(self, path: str) -> Any:
@@ -185,10 +185,13 @@ class Mender(NightClient):
         super().__init__(*given)
         # Job executions of the first night that wait.
         self._waiting: set[int] = set()
+        # Held by whoever restarts.
+        self.turn = asyncio.Lock()
 
     async def run(self) -> None:
         while not self._ending.is_set():
-            await self.mend()
+            async with self.turn:
+                await self.mend()
             await asyncio.sleep(MEND_SECONDS)
 
     async def mend(self) -> int:

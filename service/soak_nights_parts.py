@@ -127,6 +127,10 @@ class NightParts(Parts):
         self.aimed: Process | None = None
         self.session: aiohttp.ClientSession | None = None
 
+    def note_told(self, operations: int) -> None:
+        """Somebody was told that there are so many operations."""
+        self.told = max(self.told, operations)
+
     def program(self) -> list[str]:
         return [str(SERVICE), str(self.orders.path)]
 

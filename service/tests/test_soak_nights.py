@@ -7,9 +7,14 @@ import json
 from collections.abc import Callable, Iterator, Sequence
 from dataclasses import dataclass, replace
 from pathlib import Path
-from typing import Any
+from types import SimpleNamespace
+from typing import Any, cast
 
 import pytest
+import soak
+import soak_nights
+import soak_nights_clients
+from instances import Answer
 from soak_check import Operation, Read, Seen, Wrong
 from soak_nights import Nights, compare, gathered
 from soak_nights_check import (
@@ -198,6 +203,58 @@ def test_a_chunk_that_does_not_go_on_behind_the_last_base_is_refused(nights: Soa
     assert check_resumed(walk, nights.done.waiting, bases[0], bases[-1]) > 0
     with pytest.raises(Wrong, match="didn't go on at one behind the last base"):
         check_resumed(replace(walk, resumed=[]), nights.done.waiting, bases[0], bases[-1])
+
+
+class Instances:
+    """Two instances, by their URLs: a follower that lags, and the leader, where what was restarted runs at the first look."""
+
+    def __init__(self) -> None:
+        self.asked: list[tuple[str, int]] = []
+
+    async def ask(self, url: str, least: int) -> Answer:
+        self.asked.append((url, least))
+        if url == "follower":
+            return Answer(503, {"title": "NotYetSeen"}, 8) if least > 8 else Answer(200, {"statusCounts": {"FAILED": 1}}, 8)
+        unfinished = {} if self.asked.count((url, least)) > 1 else {"STARTED": 1}
+        return Answer(200, {"statusCounts": {"FAILED": 1, **unfinished}}, 9 if unfinished else 12)
+
+
+async def test_a_follower_that_lags_does_not_say_that_all_is_over(monkeypatch: pytest.MonkeyPatch) -> None:
+    """It knows nothing of the restart that was the last operation which anybody was told of."""
+    instances = Instances()
+
+    def caller(url: str) -> Any:
+        return SimpleNamespace(ask=lambda method, path: instances.ask(url, int(path.partition("atLeast=")[2] or 0)))
+
+    monkeypatch.setattr(soak, "Caller", caller)
+    services = [SimpleNamespace(url=url) for url in ("leader", "follower")]
+    assert await soak.until_quiet(cast(Any, SimpleNamespace(services=services, slowness=1.0)), 9) == 12
+    assert instances.asked == [("leader", 9), ("follower", 9), ("leader", 9)]
+
+
+async def test_nobody_else_restarts_until_all_is_over(tmp_path: Path, monkeypatch: pytest.MonkeyPatch) -> None:
+    """Else what was restarted between the two looks is at neither of them, and ends at noon or later."""
+    done = Nights(NightParts("postgres", tmp_path, SLOWNESS, 1, KEPT), Plan(NIGHTS, JOB_EXECUTIONS, 0, KEPT, 7))
+    looks: list[str] = []
+
+    async def look(parts: NightParts, least: int) -> int:
+        looks.append(f"whether all has ended, behind {least}")
+        await asyncio.sleep(0.05)
+        return 12
+
+    async def mend() -> int:
+        looks.append("what is FAILED")
+        return 0
+
+    monkeypatch.setattr(soak_nights, "until_quiet", look)
+    monkeypatch.setattr(soak_nights_clients, "MEND_SECONDS", 0.001)
+    monkeypatch.setattr(done._mender, "mend", mend)
+    done.parts.note_told(9)
+    mending = asyncio.create_task(done._mender.run())
+    await asyncio.sleep(0.01)
+    await done._until_over()
+    mending.cancel()
+    assert looks[-2:] == ["whether all has ended, behind 9", "what is FAILED"] and done.parts.told == 12
 
 
 # A chunk fails behind its second checkpoint, and goes on.
