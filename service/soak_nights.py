@@ -232,14 +232,15 @@ class Nights:
         self.parts.orders.set_clock(self._calendar.noon(night))
         if last is not None:
             await self.harm.at_compaction(last)
-        self.bases.append(await self._until_compact(is_due=last is None))
+        base = await self._until_compact(is_due=last is None)
+        self.bases.append(base["operations"])
         is_compared = night in (compared_night(self.plan.kept), self.plan.nights)
         turns = self.plan.turns if is_compared else int(self.plan.turns > 1)
-        self.states.append(await self._measured(night, turns))
+        self.states.append(await self._measured(night, turns, base))
         print(self.states[-1], flush=True)
 
-    async def _until_compact(self, is_due: bool) -> int:
-        """Returns how many operations are before the base, after a compaction was done that has all that there is.
+    async def _until_compact(self, is_due: bool) -> Any:
+        """Returns what the leader tells of the base, after a compaction was done that has all that there is.
 
         If none is due, or the one that is due fails, one is asked for.
         """
@@ -249,7 +250,7 @@ class Nights:
                 self.parts.orders.compact()
             told = await self._compacted()
             if told is not None:
-                return int(told["base"]["operations"])
+                return told["base"]
         raise Wrong(f"after {ATTEMPTS} attempts the history isn't compacted: {await self._reader.get('/batch/history')}")
 
     async def _compacted(self) -> Any:
@@ -264,10 +265,9 @@ class Nights:
             await asyncio.sleep(0.05)
         return None
 
-    async def _measured(self, night: int, turns: int) -> State:
+    async def _measured(self, night: int, turns: int, base: Any) -> State:
         """The quickest of some starts over the base. Without one there are no seconds."""
         seconds = [await self._restarted() for _ in range(turns)] or [0.0]
-        base = (await self._reader.get("/batch/history"))["base"]
         size, all_size = self._sizes()
         return State(night, base["operations"], base["rows"], size, all_size, min(seconds))
 
