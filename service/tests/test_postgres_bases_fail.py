@@ -7,6 +7,7 @@ import os
 import signal
 import sys
 from collections.abc import Callable
+from contextlib import suppress
 from dataclasses import replace
 from datetime import time as time_of_day
 from pathlib import Path
@@ -22,13 +23,16 @@ from test_new_history import check_nothing_is_known, fail_first
 from test_store_version import THIS_VERSION, check_filled, fill, refusal, version_of
 
 from job_host.service.keepers import base_making, due, postgres_compacting
+from job_host.service.keepers import keeper as keeper_module
 from job_host.service.keepers.local_logs import LocalLogs
 from job_host.service.keepers.postgres_jobs import PostgresJobs
+from job_host.service.problems import unavailable
 from job_host.service.settings import ServeSettings
 from job_host.service.stores import local_files
 from job_host.service.stores import postgres_bases as bases_module
 from job_host.service.stores.local_files import PREFIX, LocalFiles
 from job_host.service.stores.postgres_bases import PostgresBases
+from job_host.service.stores.postgres_connection import NoPrimary
 
 Make = Callable[..., ServeSettings]
 
@@ -299,6 +303,33 @@ async def test_a_server_that_is_gone_keeps_a_base_from_being_made(basing: Make, 
         await asyncio.wait([making])
         assert await tables_in(made) == before and instance.service.keeper.epoch == 1
         assert instance.service.keeper.compaction is not None and instance.service.keeper.compaction.failure
+        assert (await Caller(instance.url).start("short")).operations == 15
+
+
+async def test_a_leader_that_loses_its_server_as_a_base_is_begun_leads_again(
+    stand_in: Make, monkeypatch: pytest.MonkeyPatch
+) -> None:
+    """The connection for the base fails just as its term ends, and loses the cancellation, as asyncpg's connect does."""
+    monkeypatch.setattr(due, "MANY", 14)
+    monkeypatch.setattr(postgres_compacting, "LOOK_SECONDS", 0.05)
+    monkeypatch.setattr(keeper_module, "CANCEL_SECONDS", 0.1)
+    begun = asyncio.Event()
+
+    async def fail_late(dsns: Any) -> Any:
+        begun.set()
+        with suppress(asyncio.CancelledError):
+            await asyncio.sleep(3_600)
+        raise NoPrimary("the server is gone")
+
+    async with running(stand_in()) as instance:
+        keeper = keeper_of(instance)
+        with pytest.MonkeyPatch.context() as patch:
+            patch.setattr(PostgresBases, "open", fail_late)
+            await make_history(instance.url)
+            await begun.wait()
+            assert keeper.term is not None
+            keeper.term.fail(unavailable("CommitFailed", "the server is gone"))
+            await until_epoch(instance, 2)
         assert (await Caller(instance.url).start("short")).operations == 15
 
 

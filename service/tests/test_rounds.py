@@ -4,12 +4,16 @@ from __future__ import annotations
 
 import asyncio
 from collections.abc import Sequence
+from contextlib import suppress
 from typing import Any, cast
 
 import pytest
 
 from job_host.service.history.engine import Engine
+from job_host.service.keepers import keeper, postgres_compacting
+from job_host.service.keepers.due import Due
 from job_host.service.keepers.keeper import first_of
+from job_host.service.keepers.postgres_compacting import PostgresCompacting
 from job_host.service.problems import unavailable
 from job_host.service.terms.calls import Item, Kept, KeptRequest
 from job_host.service.terms.sessions import Sessions
@@ -46,4 +50,54 @@ async def test_rounds_end_though_an_item_becomes_ready_meanwhile(turns: int) -> 
     done, _ = await asyncio.wait([leading], timeout=1.0)
     term.fail(unavailable("Starting", "this instance begins again"))
     await asyncio.wait([leading, confirming])
+    assert done
+
+
+async def losing_one() -> None:
+    """Goes on for ever, and loses its first cancellation, as a connection may that fails just then."""
+    with suppress(asyncio.CancelledError):
+        await asyncio.sleep(3_600)
+    while True:
+        await asyncio.sleep(0.01)
+
+
+async def test_a_part_that_loses_its_cancellation_is_cancelled_again(monkeypatch: pytest.MonkeyPatch) -> None:
+    monkeypatch.setattr(keeper, "CANCEL_SECONDS", 0.05)
+    leading = asyncio.create_task(first_of([asyncio.sleep(0.01), losing_one()]))
+    done, _ = await asyncio.wait([leading], timeout=1.0)
+    leading.cancel()
+    assert done
+
+
+class Compactor(PostgresCompacting):
+    """It can, and a base is always due. `failing` lets one fail, as the server is gone."""
+
+    def __init__(self, monkeypatch: pytest.MonkeyPatch) -> None:
+        super().__init__(["none"], Due(None), lambda one: None)
+        self.begun, self.failing = asyncio.Event(), asyncio.Event()
+        monkeypatch.setattr(postgres_compacting, "LOOK_SECONDS", 0.01)
+        monkeypatch.setattr(Due, "is_now", lambda due, engine: not self.failing.is_set())
+
+    async def can(self) -> bool:
+        return True
+
+    async def make(self, engine: Engine, until: int) -> None:
+        self.begun.set()
+        await self.failing.wait()
+        raise ConnectionError("the server is gone")
+
+
+@pytest.mark.parametrize("turns", range(8))
+async def test_compactions_end_with_a_term_though_a_base_fails_meanwhile(turns: int, monkeypatch: pytest.MonkeyPatch) -> None:
+    """The server is gone: a base fails, and so many turns of the loop later its term ends."""
+    compactor = Compactor(monkeypatch)
+    term = Rounds(Engine(cast(Any, None)), Sessions({}, 10), TermSettings(10), Observers())
+    running = asyncio.create_task(compactor.run(cast(Any, compactor), term, cast(Any, None)))
+    await compactor.begun.wait()
+    compactor.failing.set()
+    for _ in range(turns):
+        await asyncio.sleep(0)
+    running.cancel()
+    done, _ = await asyncio.wait([running], timeout=0.5)
+    running.cancel()
     assert done

@@ -143,7 +143,8 @@ class Compacting:
     async def _reopened(self, engine: Engine, state: Sequence[bytes]) -> tuple[CoProcess, str]:
         """A co-process over the compacted log, or over the log as it was, and then why."""
         try:
-            process = await asyncio.wait_for(self._reopen(engine.process.catalogue), MOST_SECONDS)
+            async with asyncio.timeout(MOST_SECONDS):
+                process = await self._reopen(engine.process.catalogue)
         except asyncio.TimeoutError as fault:
             raise CoProcessEnded(f"batchctl didn't compact the log within {MOST_SECONDS:.0f} seconds") from fault
         try:

@@ -20,7 +20,8 @@ async def exchange(engine: Engine, open_next: Callable[[], Awaitable[CoProcess]]
     before = engine.process
     before.hold()
     try:
-        status = await asyncio.wait_for(before.finish(), END_SECONDS)
+        async with asyncio.timeout(END_SECONDS):
+            status = await before.finish()
         if status != 0:
             raise CoProcessEnded(f"batchctl ended with status {status}: {before.errors}", status)
         after = await open_next()

@@ -39,6 +39,8 @@ QUERIES_AT_ONCE = 1_000
 ASK_SECONDS = 2.0
 SILENT_SECONDS = 10.0
 KILL_SECONDS = 60.0
+# What is cancelled has so long, as it may wait for a process that it kills, before it is cancelled again.
+CANCEL_SECONDS = 5.0
 
 
 @dataclass(frozen=True)
@@ -415,9 +417,20 @@ async def first_of(waits: Sequence[Awaitable[Any]]) -> None:
         done, _ = await asyncio.wait(tasks, return_when=asyncio.FIRST_COMPLETED)
         await asyncio.gather(*done)
     finally:
-        for task in tasks:
+        await _cancelled(tasks)
+
+
+async def _cancelled(tasks: Sequence[asyncio.Task[None]]) -> None:
+    """Cancels tasks until all have ended.
+
+    asyncpg's connect loses a cancellation that comes as the connection is made or fails, as wait_for of Python 3.11 does. What
+    goes on without end then would keep a term from its end, and an instance from leading or following again.
+    """
+    while running := [task for task in tasks if not task.done()]:
+        for task in running:
             task.cancel()
-        await asyncio.gather(*tasks, return_exceptions=True)
+        await asyncio.wait(running, timeout=CANCEL_SECONDS)
+    await asyncio.gather(*tasks, return_exceptions=True)
 
 
 async def _ended(wait: Awaitable[Any]) -> None:

@@ -87,7 +87,9 @@ class PostgresCompacting:
     async def _compact(self, making: BaseMaking, engine: Engine, until: int) -> str:
         """Returns why no base is made, if it isn't. Whatever fails fails beside the term."""
         try:
-            base = await asyncio.wait_for(making.make(engine, until), MOST_SECONDS)
+            # Not by wait_for, which loses a cancellation that comes as the base fails: both do if the server is gone.
+            async with asyncio.timeout(MOST_SECONDS):
+                base = await making.make(engine, until)
         except asyncio.TimeoutError:
             return f"it took more than {MOST_SECONDS:.0f} seconds, or the server didn't answer"
         except Exception as fault:
