@@ -61,7 +61,7 @@ class Measured:
 
 @dataclass(frozen=True)
 class State:
-    """A log behind a night: its bytes when it is compacted, all and but for digits, and the openings with and without a compaction."""
+    """A log behind a night: its bytes when it is compacted, all and but for digits, and openings with and without one."""
 
     night: int
     size: int
