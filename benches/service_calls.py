@@ -45,6 +45,8 @@ from job_host.protocol.lines import command  # noqa: E402
 CHUNK = {"item-count": 100, "reader": {"ref": "rows"}, "writer": {"ref": "table"}}
 CATALOGUE = {"jobs": [{"id": "copy", "elements": [{"kind": "step", "id": "copy", "chunk": CHUNK}]}]}
 METRICS = {"READ_COUNT": 100, "WRITE_COUNT": 100, "COMMIT_COUNT": 1}
+# What a row of the table has of an operation whose audit is not told.
+COLUMNS = ["number", "epoch", "line", "reply", "request_key"]
 TAKEOVER_AFTER = 1.0
 REPLAY_SECONDS = 120.0
 
@@ -273,7 +275,7 @@ class Bench:
         pairs = enumerate(zip(lines, self._hand(lines), strict=True), 1)
         table = await asyncpg.connect(dsn)
         rows = [(number, 1, line.decode(), reply.decode(), None) for number, (line, reply) in pairs]
-        await table.copy_records_to_table("job_host_operation", records=rows)
+        await table.copy_records_to_table("job_host_operation", records=rows, columns=COLUMNS)
         await table.close()
 
 
