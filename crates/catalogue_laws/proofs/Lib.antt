@@ -1,0 +1,5 @@
+pub mod OtherNames
+pub mod ShownInstances
+pub mod Leavers
+pub mod OverHidden
+pub mod SameNames
