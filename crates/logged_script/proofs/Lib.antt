@@ -1,6 +1,8 @@
 pub mod Floats
 pub mod Growing
 pub mod Keeping
+pub mod HiddenLines
+pub mod ShortIds
 pub mod Standing
 pub mod Tagging
 pub mod Opened
@@ -8,3 +10,4 @@ pub mod Widening
 pub mod Based
 pub mod Compacting
 pub mod Sealed
+pub mod Forgetting

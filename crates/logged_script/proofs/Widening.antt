@@ -13,7 +13,7 @@ use Rattle.script_engine.specs.Script.{catalogue_at}
 use Rattle.logged_script.specs.Faults.{HasCatalogue, HasGrown, GoesOnFrom}
 use Rattle.logged_script.specs.Openings.{KeepsHistories}
 
-is-grown : (kept given : List JobTree) (b : Bool) → HasGrown kept given b → IsGrown kept given
+pub is-grown : (kept given : List JobTree) (b : Bool) → HasGrown kept given b → IsGrown kept given
 is-grown kept given true h = h.0
 is-grown kept given false h = ([], h ∙ sym (append-nil kept))
 

@@ -2,8 +2,9 @@
 use Rattle.std.specs.Prelude.{ℕ, ◌≡◌, nat_lt, List, [], Bool, Result, Ok, Err, box_value}
 use Rattle.jsl_model.specs.Jobs.{JobTree}
 use Rattle.jsl_json.specs.declared.fault.ReadFault.{ReadFault}
-use Rattle.batch_history.specs.Legal.{IsLegal, most_numbered}
-use Rattle.batch_history.specs.Rows.{History, Rows, rows}
+use Rattle.batch_history.specs.Legal.{most_numbered}
+use Rattle.batch_history.specs.Rows.{History, Rows}
+use Rattle.catalogue_laws.specs.Leaving.{StandsOver}
 use Rattle.script_engine.specs.ByRows.{line_rows_by, line_text_by, rows_past}
 use Rattle.script_engine.specs.Script.{catalogue_at, lines_history}
 use Rattle.log_base.specs.Bases.{rows_of_base}
@@ -24,10 +25,11 @@ jobs_at h = jobs_read (catalogue_at h.catalogue)
 abbrev pub rows_begun : LogHistory → Rows
 rows_begun h = rows_of_base (jobs_at h) h.base
 
--- a legal history with the rows of a log's base. Without a base the history without operations is one
+-- a legal history with the rows of a log's base. Behind the log's catalogue it may have jobs that have left that, under names that
+-- no line can give. Without a base the history without operations is one
 pub record IsOfBase (h : LogHistory) (g : History) : Type 0 where
-  pub legal : IsLegal most_numbered g
-  pub rows_are : rows_begun h ≡ rows g
+  pub hidden : List JobTree
+  pub stands : StandsOver most_numbered hidden (rows_begun h) g
 
 -- A HISTORY OF A LOG, whose lines have tags or not: one with the rows of its base, and behind it the operations of its lines'
 -- commands, of which there are at most 4,294,967,296 in all

@@ -3,7 +3,8 @@ use Rattle.std.specs.Prelude.{ℕ, ◌≡◌, ◌⊎◌, List, [], ◌∷◌, �
 use Rattle.jsl_model.specs.Jobs.{JobTree}
 use Rattle.batch_history.specs.declared.call.Entry.{Entry}
 use Rattle.batch_history.specs.Legal.{IsLegal}
-use Rattle.batch_history.specs.Rows.{history, rows}
+use Rattle.batch_history.specs.Rows.{History, history, rows}
+use Rattle.catalogue_laws.specs.Leaving.{with_hidden}
 use Rattle.jsl_json.specs.declared.fault.ReadFault.{ReadFault as CatalogueFault}
 use Rattle.jsl_json.specs.declared.fault.ReadFault.TheVariants as catalogues
 use Rattle.durable_log.specs.Format.{LogRecord}
@@ -41,9 +42,10 @@ abbrev pub KeepsHistories : List JobTree → List JobTree → Type 0
 KeepsHistories kept given = (limit : ℕ) (log : List Entry) → IsLegal limit (history kept log)
     → IsLegal limit (history given log) × (rows (history given log) ≡ record (rows (history kept log)) { catalogue = given })
 
--- each history over the one catalogue with the rows of the one base is over the other catalogue one with the rows of the other base
-abbrev pub KeepsBase : List JobTree → List JobTree → LogHistory → LogHistory → Type 0
-KeepsBase kept given old new = (log : List Entry) → IsOfBase old (history kept log) → IsOfBase new (history given log)
+-- each history with the rows of the one base is over the given catalogue, with the same jobs hidden behind it, one with the rows of the
+-- other base
+abbrev pub KeepsBase : List JobTree → LogHistory → LogHistory → Type 0
+KeepsBase given old new = (g : History) → (from : IsOfBase old g) → IsOfBase new (history (with_hidden given from.hidden) g.log)
 
 -- the bytes that are cut off: those after the records, and none if the file is at rest or sealed
 pub record IsCutOff (file cut : List ℕ) : Type 0 where

@@ -17,7 +17,7 @@ pub use catalogue::{catalogue_at, new_log};
 pub use compaction::{CompactionFault, compacted};
 pub use engine::ScriptEngine;
 pub use fault::LogFault;
-pub use law::logs_stand_for_legal_histories;
+pub use law::{compacted_logs_stand_for_the_same_operations, logs_stand_for_legal_histories};
 pub use opening::{OpeningFault, RestoredLog, restore};
 pub use run::answer_restored;
 pub use tags::{MAX_TAG, command_of};

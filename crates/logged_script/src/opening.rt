@@ -211,9 +211,10 @@ pub fn restore<J: RowRepository, B: RowRestoration<J>, const TAGS: bool>(
     ensures begun { IfOk result (λ log. IsBegun TAGS file.items line.now (records_of log.file.bytes.items)) }
 
     // Each legal history over the log's catalogue is legal over the given one, with equal rows. One
-    // with the rows of the log's base has those of the base over the given one.
+    // with the rows of the log's base has those of the base over the given one, if the same jobs are
+    // hidden behind that.
     ensures histories { IfOk result (λ _. (kept : List JobTree) → HasCatalogue (records_of file.items) kept → KeepsHistories kept catalogue) }
-    ensures base { IfOk result (λ log. (kept : List JobTree) → HasCatalogue (records_of file.items) kept → KeepsBase kept catalogue (history_of (records_of file.items)) (history_of (records_of log.file.bytes.items))) }
+    ensures base { IfOk result (λ log. KeepsBase catalogue (history_of (records_of file.items)) (history_of (records_of log.file.bytes.items))) }
 
     // Its last catalogue has the given jobs.
     ensures jobs { IfOk result (λ log. jobs_at (history_of (records_of log.file.bytes.items)) ≡ catalogue) }

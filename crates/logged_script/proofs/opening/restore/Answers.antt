@@ -48,11 +48,11 @@ returns-in-Ok-new_file-clause-jobs g c =
     c.in-Ok-new_file.ensures.records
 
 pub returns-in-Ok-new_file-clause-base : goal.returns-in-Ok-new_file-clause-base
-returns-in-Ok-new_file-clause-base g c kept has =
+returns-in-Ok-new_file-clause-base g c =
     let line = c.args.line.now in
     let ran = c.in-Ok.ran in
-    base_kept (records_of c.args.file.items) (records_of c.in-Ok-new_file.made.file.bytes.items) line ran.grown c.args.catalogue kept
-    (subst (λ (file : List ℕ). GoesOnFrom (records_of file) line ran.grown) c.deref.ensures.value c.in-Ok.ensures.goes_on) c.requires.catalogue has
+    base_kept (records_of c.args.file.items) (records_of c.in-Ok-new_file.made.file.bytes.items) line ran.grown c.args.catalogue
+    (subst (λ (file : List ℕ). GoesOnFrom (records_of file) line ran.grown) c.deref.ensures.value c.in-Ok.ensures.goes_on) c.requires.catalogue
     c.in-Ok-new_file.ensures.records
 
 pub returns-in-Ok-new_file-clause-histories : goal.returns-in-Ok-new_file-clause-histories
