@@ -14,7 +14,7 @@ from pathlib import Path
 
 import pytest
 
-from log_trial import catalogues, compacted_files, compactions, files, tags
+from log_trial import catalogues, compacted_files, compactions, files, left_jobs, tags
 from log_trial.copies import check_copies
 from log_trial.damages import check_damage, check_long_end, check_opening, damages_of, sample_of
 from log_trial.failures import check_full_disk, failures, small_disk
@@ -114,6 +114,19 @@ def test_compactions_at_random(
     count = pytestconfig.getoption("--histories")
     trials = [partial(compactions.check_drawn, program, f"{seed} {at}", folder / str(at)) for at in range(count)]
     tell(f"histories that are compacted: {side_by_side(pool, trials)}")
+
+
+@pytest.mark.parametrize("trial", left_jobs.TRIALS, ids=name_of)
+def test_jobs_that_leave(program: Program, folder: Path, trial: Callable[[Program, Path], None]) -> None:
+    trial(program, path_of(folder / "jobs"))
+
+
+def test_jobs_that_leave_at_random(
+    program: Program, folder: Path, pool: ThreadPoolExecutor, seed: int, pytestconfig: pytest.Config, tell: Tell
+) -> None:
+    count = pytestconfig.getoption("--histories")
+    trials = [partial(left_jobs.check_drawn, program, f"{seed} {at}", folder / str(at)) for at in range(count)]
+    tell(f"histories whose catalogue loses a job: {side_by_side(pool, trials)}")
 
 
 @pytest.mark.parametrize("trial", compacted_files.TRIALS, ids=name_of)

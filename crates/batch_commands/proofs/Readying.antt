@@ -2,20 +2,25 @@
 use Rattle.std.proofs.Common.{◌≡◌, ◌∙◌, inl, inr, ℕ, ◌+◌, List, [], ◌++◌, length, take, drop, Bool, true, false, Result, Ok, Err, refl, sym, ap, subst, arith, length-append}
 use Rattle.std.proofs.lemmas.Bool.{false≢true}
 use Rattle.std.proofs.lemmas.List.{append-nil, drop_all, take_at}
-use Rattle.std.specs.Prelude.{Option, Some, None, IsErrAnd, IsTrue}
+use Rattle.std.specs.Prelude.{◌⊎◌, Option, Some, None, IsErrAnd, IsTrue}
 use Rattle.jsl_model.specs.Jobs.{JobTree}
 use Rattle.log_host.specs.Host.{Holds}
 use Rattle.log_host.specs.Past.{Call}
 use Rattle.file_host.specs.Making.{AtEachMoment, IsBeforeOrWhole, IsOpening, IsReady as IsFileReady, keeping, reading as read_calls}
 use Rattle.file_host.proofs.Opening.{opening-kept}
 use Rattle.file_host.specs.declared.file_fault.FileFault.{FileFault}
-use Rattle.durable_log.specs.Format.{shut, seal}
+use Rattle.durable_log.specs.Format.{LogRecord, shut, seal}
 use Rattle.durable_log.specs.Logs.{records_of, Reopens}
 use Rattle.script_lines.specs.Device.{Told}
 use Rattle.script_lines.specs.Unread.{Unread, nothing_read}
+use Rattle.script_engine.specs.Script.{catalogue_at}
 use Rattle.script_log.specs.Reading.{reading}
+use Rattle.script_log.specs.Runs.{history_of}
+use Rattle.logged_script.specs.Compactions.{IsCompacted, IsCompactedOver}
+use Rattle.logged_script.specs.Histories.{jobs_at, jobs_read}
+use Rattle.logged_script.proofs.Compacting.{compacted_over_same}
 use Rattle.batch_commands.specs.Devices.{Devices}
-use Rattle.batch_commands.specs.Logging.{AnswersOver, HasFirst, HasBegun, IsCutFrom, IsLogServed, IsReady, IsReopenedFrom, IsSafe, IsUnready, TellsUnready, getting_ready, unready_by_file}
+use Rattle.batch_commands.specs.Logging.{AnswersOver, HasFirst, HasBegun, IsBegunFrom, IsCompactedFrom, IsCutFrom, IsLogServed, IsReady, IsReopenedFrom, IsSafe, IsUnready, TellsUnready, getting_ready, unready_by_file}
 use Rattle.batch_commands.specs.declared.logged.Unready.{Unready}
 use Rattle.batch_commands.specs.declared.logged_fault.OverLogFault.{OverLogFault}
 
@@ -118,3 +123,15 @@ no-log-by tags compact name x x' p0 p line line' catalogue fault (Err end) nothi
   refl,
   tells,
 )))
+
+-- a log that begins over the given catalogue was compacted over that, or goes on as it is
+compacted-from : (tags : Bool) (found : Option (List ℕ)) (line : List ℕ) (earlier now : List LogRecord) → IsBegunFrom tags found line earlier → IsCompactedOver tags (history_of earlier) line (history_of now)
+    → IsCompactedFrom tags found line now
+compacted-from tags None line earlier now begun compacted = (earlier, begun, compacted)
+compacted-from tags (Some file) line earlier now begun compacted = record { kept = line; earlier = earlier; begun = begun; compacted = compacted }
+
+pub begun-compacted : (tags : Bool) (found : Option (List ℕ)) (line : List ℕ) (jobs : List JobTree) (earlier now : List LogRecord) → IsBegunFrom tags found line earlier → jobs_at (history_of earlier) ≡ jobs
+    → catalogue_at line ≡ Ok jobs → (now ≡ earlier) ⊎ IsCompacted tags (history_of earlier) line (history_of now) → HasBegun tags true found line now
+begun-compacted tags found line jobs earlier now begun same read (inl stays) = inl (subst (IsBegunFrom tags found line) (sym stays) begun)
+begun-compacted tags found line jobs earlier now begun same read (inr compacted) =
+    inr (refl, compacted-from tags found line earlier now begun (compacted_over_same tags (history_of earlier) (history_of now) line (same ∙ sym (ap jobs_read read)) compacted))

@@ -26,7 +26,7 @@ use Rattle.script_log.specs.Reading.{Reading, reading, lines_in}
 use Rattle.script_log.specs.Runs.{catalogue_record, history_of}
 use Rattle.script_log.specs.declared.fault.RunFault.{RunFault}
 use Rattle.script_log.specs.declared.fault.RunFault.TheVariants as runs
-use Rattle.logged_script.specs.Compactions.{IsCompacted}
+use Rattle.logged_script.specs.Compactions.{IsCompactedOver, IsCompactingFault, IsMadeAnew}
 use Rattle.logged_script.specs.Faults.{IsOpeningFault}
 use Rattle.logged_script.specs.Histories.{is_kept, reply_at}
 use Rattle.logged_script.specs.Logged.{Ends, IsAnsweredOver}
@@ -142,17 +142,23 @@ abbrev pub IsBegunFrom : Bool → Option (List ℕ) → List ℕ → List LogRec
 IsBegunFrom tags None line now = now ≡ catalogue_record line ∷ []
 IsBegunFrom tags (Some file) line now = IsBegun tags file line now
 
+-- the records of a log that was compacted. The file that was found goes on over some catalogue, mostly the given one: over the given
+-- one it has the same rows
+abbrev pub IsCompactedFrom : Bool → Option (List ℕ) → List ℕ → List LogRecord → Type 0
+IsCompactedFrom tags None line now =
+    (earlier : List LogRecord) × IsBegunFrom tags None line earlier × IsCompactedOver tags (history_of earlier) line (history_of now)
+IsCompactedFrom tags (Some file) line now = IsMadeAnew tags file line now
+
 -- THE RECORDS OF A RUN: those with which it begins; or, if the log is compacted, those of a log with the same rows and without
 -- that past
 abbrev pub HasBegun : Bool → Bool → Option (List ℕ) → List ℕ → List LogRecord → Type 0
-HasBegun tags compact found line now =
-    IsBegunFrom tags found line now
-    ⊎ ((compact ≡ true) × ((earlier : List LogRecord) × IsBegunFrom tags found line earlier × IsCompacted tags (history_of earlier) line (history_of now)))
+HasBegun tags compact found line now = IsBegunFrom tags found line now ⊎ ((compact ≡ true) × IsCompactedFrom tags found line now)
 
--- the reason why a run does not begin with the file that was found
-abbrev pub IsFaultFrom : Bool → Option (List ℕ) → List ℕ → OpeningFault → Type 0
-IsFaultFrom tags None line fault = fault ≡ openings.OutOfMemory
-IsFaultFrom tags (Some file) line fault = IsOpeningFault tags file line fault
+-- the reason why a run does not begin with the file that was found, which is compacted or not
+abbrev pub IsFaultFrom : Bool → Bool → Option (List ℕ) → List ℕ → OpeningFault → Type 0
+IsFaultFrom tags compact None line fault = fault ≡ openings.OutOfMemory
+IsFaultFrom tags false (Some file) line fault = IsOpeningFault tags file line fault
+IsFaultFrom tags true (Some file) line fault = IsCompactingFault tags file line fault
 
 -- the bytes that are cut off: those behind the end of the file that was found
 abbrev pub IsCutFrom : Option (List ℕ) → List ℕ → Type 0
@@ -193,11 +199,11 @@ abbrev pub IsUnread : List Call → Unready → Type 0
 IsUnread d' fault = IsOpening d' × ((why : FileFault) × (fault ≡ unready_by_file why))
 
 -- it was read, and the log is not restored: no further call was made
-pub record IsUnrestored (tags : Bool) (name line : List ℕ) (d d' : List Call) (fault : Unready) : Type 0 where
+pub record IsUnrestored (tags compact : Bool) (name line : List ℕ) (d d' : List Call) (fault : Unready) : Type 0 where
   pub found : Option (List ℕ)
   pub calls : d' ≡ read_calls name found d
   pub why : OpeningFault
-  pub is : IsFaultFrom tags found line why
+  pub is : IsFaultFrom tags compact found line why
   pub named : fault ≡ unready_by_log why
 
 -- it did not get ready, and a crash leaves no more than if it had
@@ -214,7 +220,7 @@ pub record IsUnmade (tags compact : Bool) (line : List ℕ) (d' : List Call) (fa
 
 -- the reason why there is no log over which lines are answered
 abbrev pub IsUnready : Bool → Bool → List ℕ → List ℕ → List Call → List Call → Unready → Type 0
-IsUnready tags compact name line d d' fault = IsUnread d' fault ⊎ IsUnrestored tags name line d d' fault ⊎ IsUnmade tags compact line d' fault
+IsUnready tags compact name line d d' fault = IsUnread d' fault ⊎ IsUnrestored tags compact name line d d' fault ⊎ IsUnmade tags compact line d' fault
 
 -- the output about that reason
 abbrev pub TellsUnready : Unready → Held → Held → OverLogFault → Type 0

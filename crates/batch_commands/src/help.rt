@@ -76,7 +76,8 @@ FILE that was made with tags is only read with them.
 With `--compact`, too, FILE is made anew before the first line is answered: it has the rows that exist,
 and none of the operations that led to them. Each reply is as if it had all of them. FILE is as small
 then as what is kept, and is opened as fast. If that fails, one line on standard error says so, and FILE
-goes on as it was.
+goes on as it was. The catalogue may then lack jobs, or have other ones under their ids, of which FILE
+has no job execution.
 
 Exit status: 0 done, 2 the command line was refused, 3 the catalogue was refused (its fault is the
 one line of output), 4 a read or a write failed, 5 out of memory; with a log also 6 its file failed,

@@ -1,5 +1,5 @@
 // A script over a log.
-ghost use Rattle.std.specs.Prelude.{◌≡◌, ◌⊎◌, [], List, ℕ, false, None, Ok, IfOk, IfErr, IsErrAnd, IsTrue, OnOk};
+ghost use Rattle.std.specs.Prelude.{true, ◌≡◌, ◌⊎◌, [], List, ℕ, false, None, Ok, IfOk, IfErr, IsErrAnd, IsTrue, OnOk};
 ghost use Rattle.std.specs.Option.{option_map};
 ghost use Rattle.durable_log.specs.Logs.{records_of, IsRest};
 ghost use Rattle.file_host.specs.Making.{IsOpening, IsReady as IsFileReady};
@@ -14,18 +14,18 @@ ghost use Rattle.logged_script.specs.Texts.{log_fault_text};
 ghost use Rattle.logged_script.specs.declared.opening.OpeningFault.TheVariants.{OutOfMemory};
 ghost use Rattle.batch_commands.specs.declared.logged_fault.OverLogFault.TheVariants.{Refused};
 ghost use Rattle.batch_commands.specs.Devices.{devices};
-ghost use Rattle.batch_commands.specs.Logging.{AnswersOver, FailsFirst, HasBegun, HasFirst, HasName, IsBegunFrom, IsCutFrom, IsFaultFrom, IsLogServed, IsReady, IsReopenedFrom, IsSafe, IsUnready, PutsLine, Tells, TellsFirst, TellsUnready, getting_ready, outcome_over, over_log_exit, unready_by_file, unready_by_log};
+ghost use Rattle.batch_commands.specs.Logging.{AnswersOver, FailsFirst, HasBegun, HasFirst, HasName, IsBegunFrom, IsCompactedFrom, IsCutFrom, IsFaultFrom, IsLogServed, IsReady, IsReopenedFrom, IsSafe, IsUnready, PutsLine, Tells, TellsFirst, TellsUnready, getting_ready, outcome_over, over_log_exit, unready_by_file, unready_by_log};
 
 use crate::logged_fault::OverLogFault;
 use crate::main_program::DONE;
 use crate::replies::{flush, put};
-use batch_service::{LogRows, RestoredLog, ScriptEngine};
+use batch_service::{LogRows, LogToCompact, RestoredLog, ScriptEngine};
 use durable_log::{Log, SHUT};
 use file_host::{Disk, FileFault, FileHost, make_anew, read_file, resume};
 use jsl_model::Catalogue;
 use logged_script::{
     LogFault, OpeningFault, answer_restored, catalogue_at, compacted, log_fault_text, new_log,
-    restore,
+    restore, restore_to_compact,
 };
 use script_engine::{EngineFault, Line, OutputBuffer, ReadFault, Sink, Source, fault_text};
 use script_lines::InputBuffer;
@@ -170,11 +170,40 @@ fn find_log<const TAGS: bool>(
     ensures jobs { IfOk result (λ log. jobs_at (history_of (records_of log.file.bytes.items)) ≡ catalogue) }
     ensures cut { IfOk result (λ log. IsCutFrom (option_map (λ file. file.items) found) log.cut.items) }
     ensures reopens { IfOk result (λ log. IsTrue log.reopens → IsReopenedFrom (option_map (λ file. file.items) found) log.file.bytes.items log.file.rest.end) }
-    ensures fault { IfErr result (IsFaultFrom TAGS (option_map (λ file. file.items) found) line.now) }
+    ensures fault { IfErr result (IsFaultFrom TAGS false (option_map (λ file. file.items) found) line.now) }
 {
     match found {
         Some(file) => restore::<_, LogRows, TAGS>(alloc, file, line, catalogue),
         None => fresh_log(alloc, line, catalogue),
+    }
+}
+
+/// Restores the log that was found, to compact it, or makes one that has only this catalogue.
+fn find_to_compact<const TAGS: bool>(
+    alloc: Global,
+    found: Option<Vec<u8>>,
+    line: &[u8],
+    catalogue: Catalogue,
+) -> Result<LogToCompact<TAGS>, OpeningFault>
+    requires { catalogue_at line.now ≡ Ok catalogue }
+    ensures begun { IfOk result (λ made. made.is_compacted ≡ false → IsBegunFrom TAGS (option_map (λ file. file.items) found) line.now (records_of made.log.file.bytes.items)) }
+    ensures compacted { IfOk result (λ made. IsTrue made.is_compacted → IsCompactedFrom TAGS (option_map (λ file. file.items) found) line.now (records_of made.log.file.bytes.items)) }
+    ensures rest { IfOk result (λ made. IsRest made.log.file.bytes.items made.log.file.rest) }
+    ensures answers { IfOk result (λ made. Answers TAGS made.log.engine (history_of (records_of made.log.file.bytes.items))) }
+    ensures jobs { IfOk result (λ made. jobs_at (history_of (records_of made.log.file.bytes.items)) ≡ catalogue) }
+    ensures cut { IfOk result (λ made. IsCutFrom (option_map (λ file. file.items) found) made.log.cut.items) }
+    ensures reopens { IfOk result (λ made. IsTrue made.log.reopens → IsReopenedFrom (option_map (λ file. file.items) found) made.log.file.bytes.items made.log.file.rest.end) }
+    ensures fault { IfErr result (IsFaultFrom TAGS true (option_map (λ file. file.items) found) line.now) }
+{
+    match found {
+        Some(file) => restore_to_compact::<_, LogRows, TAGS>(alloc, file, line, catalogue),
+        None => match fresh_log(alloc, line, catalogue) {
+            Ok(log) => Ok(LogToCompact {
+                log,
+                is_compacted: false,
+            }),
+            Err(fault) => Err(fault),
+        },
     }
 }
 
@@ -212,6 +241,31 @@ fn compact_log<F: Write, const TAGS: bool>(
     }
 }
 
+/// Restores the log that was found, or makes one that has only this catalogue, and compacts it.
+fn prepare_compacted<F: Write, const TAGS: bool>(
+    alloc: Global,
+    found: Option<Vec<u8>>,
+    line: &[u8],
+    catalogue: Catalogue,
+    faults: &mut F,
+) -> Result<RestoredLog<TAGS>, OpeningFault>
+    requires { catalogue_at line.now ≡ Ok catalogue }
+    ensures begun { IfOk result (λ log. HasBegun TAGS true (option_map (λ file. file.items) found) line.now (records_of log.file.bytes.items)) }
+    ensures rest { IfOk result (λ log. IsRest log.file.bytes.items log.file.rest) }
+    ensures answers { IfOk result (λ log. Answers TAGS log.engine (history_of (records_of log.file.bytes.items))) }
+    ensures cut { IfOk result (λ log. IsCutFrom (option_map (λ file. file.items) found) log.cut.items) }
+    ensures reopens { IfOk result (λ log. IsTrue log.reopens → IsReopenedFrom (option_map (λ file. file.items) found) log.file.bytes.items log.file.rest.end) }
+    ensures fault { IfErr result (IsFaultFrom TAGS true (option_map (λ file. file.items) found) line.now) }
+{
+    let made = find_to_compact(alloc, found, line, catalogue)?;
+    let LogToCompact { log, is_compacted } = made;
+    if is_compacted {
+        Ok(log)
+    } else {
+        Ok(compact_log(alloc, line, log, faults))
+    }
+}
+
 /// Restores the log that was found, or makes one that has only this catalogue. Compacts it if that is
 /// asked for.
 fn prepare_log<F: Write, const TAGS: bool>(
@@ -228,13 +282,12 @@ fn prepare_log<F: Write, const TAGS: bool>(
     ensures answers { IfOk result (λ log. Answers TAGS log.engine (history_of (records_of log.file.bytes.items))) }
     ensures cut { IfOk result (λ log. IsCutFrom (option_map (λ file. file.items) found) log.cut.items) }
     ensures reopens { IfOk result (λ log. IsTrue log.reopens → IsReopenedFrom (option_map (λ file. file.items) found) log.file.bytes.items log.file.rest.end) }
-    ensures fault { IfErr result (IsFaultFrom TAGS (option_map (λ file. file.items) found) line.now) }
+    ensures fault { IfErr result (IsFaultFrom TAGS compact (option_map (λ file. file.items) found) line.now) }
 {
-    let log = find_log(alloc, found, line, catalogue)?;
     if compact {
-        Ok(compact_log(alloc, line, log, faults))
+        prepare_compacted(alloc, found, line, catalogue, faults)
     } else {
-        Ok(log)
+        find_log(alloc, found, line, catalogue)
     }
 }
 

@@ -8,7 +8,10 @@ mod scripts;
 pub use batch_operator::CopyCount;
 use batch_operator::Operator as OperatorOver;
 use job_threads::SessionPort as SessionPortOver;
-use logged_script::{RestoredLog as RestoredLogOver, ScriptEngine as ScriptEngineOver};
+use logged_script::{
+    LogToCompact as LogToCompactOver, RestoredLog as RestoredLogOver,
+    ScriptEngine as ScriptEngineOver,
+};
 use op_log::Book as BookOver;
 use read_copies::{RepositoryState as RepositoryStateOver, StatusCounts as StatusCountsOver};
 pub use scripts::{answer_script, run_script};
@@ -43,3 +46,6 @@ pub type LogRows = Restored<4_294_967_296>;
 
 /// A log that was restored, with its engine ([`logged_script::RestoredLog`]).
 pub type RestoredLog<const TAGS: bool> = RestoredLogOver<Repository<4_294_967_296>, TAGS>;
+
+/// A log that was restored to be compacted ([`logged_script::LogToCompact`]).
+pub type LogToCompact<const TAGS: bool> = LogToCompactOver<Repository<4_294_967_296>, TAGS>;

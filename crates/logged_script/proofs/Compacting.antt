@@ -1,14 +1,17 @@
 -- A log that is made anew from the rows of another one.
-use Rattle.std.proofs.Common.{◌≡◌, ◌∙◌, ℕ, ◌==◌, Bool, true, false, cond, Option, None, Some, List, [], ◌∷◌, map, length, Result, Ok, Err, refl, sym, ap}
+use Rattle.std.proofs.Common.{◌≡◌, ◌∙◌, ℕ, ◌==◌, Bool, true, false, cond, Option, None, Some, List, [], ◌∷◌, map, length, Result, Ok, Err, refl, sym, ap, subst}
 use Rattle.std.specs.Prelude.{box_value}
 use Rattle.jsl_json.specs.declared.fault.ReadFault.{ReadFault}
 use Rattle.jsl_model.specs.Jobs.{JobTree}
 use Rattle.batch_ids.specs.declared.refusal.Refusal.{Refusal}
 use Rattle.batch_history.specs.Legal.{most_numbered}
+use Rattle.batch_history.specs.Lists.{Each}
 use Rattle.batch_history.specs.NextRows.{rows_after, rows_with, without}
 use Rattle.batch_history.specs.Operations.{purged_by}
 use Rattle.batch_history.specs.Replies.{is_nothing, reply_by}
 use Rattle.batch_history.specs.Rows.{Rows}
+use Rattle.batch_history.specs.Walks.{job_named}
+use Rattle.batch_history.specs.declared.rows.ExecutionRow.{ExecutionRow}
 use Rattle.batch_history.specs.declared.call.Call.{Call}
 use Rattle.batch_history.specs.declared.call.Entry.{Entry}
 use Rattle.batch_history.specs.declared.call.Reply.{Reply}
@@ -25,7 +28,8 @@ use Rattle.log_base.specs.Bases.{head_in, rows_at_head, rows_of_base}
 use Rattle.log_base.specs.Writing.{IsLogOfRows, records_of_base}
 use Rattle.base_text.specs.Lines.{base_line_of}
 use Rattle.base_text.specs.declared.head.BaseHead.{BaseHead}
-use Rattle.logged_script.specs.Compactions.{IsCompacted}
+use Rattle.catalogue_laws.specs.Leaving.{KeepsJobs}
+use Rattle.logged_script.specs.Compactions.{IsCompacted, IsCompactedOver}
 use Rattle.logged_script.specs.Histories.{Answers, jobs_at, jobs_read, rows_at, rows_begun}
 use Rattle.logged_script.specs.Tags.{commands_in}
 use Rattle.logged_script.specs.declared.engine.ScriptEngine.{ScriptEngine}
@@ -72,7 +76,7 @@ catalogue-base jobs [] = refl
 catalogue-base jobs (line ∷ lines) =
     (numbers_all (rows_at_head jobs (head_in (base_line_of line))) lines).2 ∙ catalogue-head jobs (head_in (base_line_of line))
 
-catalogue-of : (tags : Bool) (h : LogHistory) → (rows_at tags h).catalogue ≡ jobs_at h
+pub catalogue-of : (tags : Bool) (h : LogHistory) → (rows_at tags h).catalogue ≡ jobs_at h
 catalogue-of tags h = catalogue-past (rows_begun h) (commands_in tags h.lines) ∙ catalogue-base (jobs_at h) h.base
 
 -- ---- The log that was made
@@ -116,3 +120,34 @@ module _ (tags : Bool) (limit : ℕ) (r : Rows) (line file : List ℕ) (jobs : L
         lines = ap (λ (o : LogHistory). o.lines) history-is;
         rows = rows-are ∙ (ap (λ (c : List JobTree). record r { catalogue = c }) given ∙ is);
       }
+
+  -- also over other jobs, if these keep those of the rows
+  pub compacted_over : {J : Type 0} {n : ℕ} (rows_in : J → Rows) (engine : ScriptEngine J n) (h : LogHistory) → r ≡ rows_in (box_value engine.repository) → Answers tags limit rows_in engine h → KeepsJobs (rows_at tags h) (jobs_read (catalogue_at line))
+      → IsCompactedOver tags h line (history_of (records_of file))
+  compacted_over rows_in engine h are answers keeps =
+      let is : r ≡ rows_at tags h = are ∙ answers.rows_are in
+      let catalogue : (history_of (records_of file)).catalogue ≡ line = ap (λ (o : LogHistory). o.catalogue) history-is in
+      let given : jobs_at (history_of (records_of file)) ≡ jobs_read (catalogue_at line) = ap (λ (l : List ℕ). jobs_read (catalogue_at l)) catalogue in
+      record {
+        catalogue = catalogue;
+        lines = ap (λ (o : LogHistory). o.lines) history-is;
+        keeps = subst (KeepsJobs (rows_at tags h)) (sym given) keeps;
+        rows = rows-are ∙ (λ i. record (is i) { catalogue = (sym (ap jobs_read read) ∙ sym given) i });
+      }
+
+-- ---- What was compacted over the same jobs
+
+keeps-own : (jobs : List JobTree) (rows : List ExecutionRow) → Each (λ (row : ExecutionRow). job_named jobs row.job ≡ job_named jobs row.job) rows
+keeps-own jobs [] = tt
+keeps-own jobs (row ∷ rows) = (refl, keeps-own jobs rows)
+
+pub compacted_over_same : (tags : Bool) (earlier now : LogHistory) (line : List ℕ) → jobs_at earlier ≡ jobs_read (catalogue_at line) → IsCompacted tags earlier line now → IsCompactedOver tags earlier line now
+compacted_over_same tags earlier now line same is =
+    let r : Rows = rows_at tags earlier in
+    let jobs : r.catalogue ≡ jobs_at now = catalogue-of tags earlier ∙ (same ∙ ap (λ (l : List ℕ). jobs_read (catalogue_at l)) (sym is.catalogue)) in
+    record {
+      catalogue = is.catalogue;
+      lines = is.lines;
+      keeps = subst (KeepsJobs r) jobs (keeps-own r.catalogue r.executions);
+      rows = is.rows ∙ (λ i. record r { catalogue = jobs i });
+    }

@@ -21,7 +21,7 @@ use Rattle.logged_script.specs.Compactions.{IsCompactedOver}
 use Rattle.logged_script.specs.Histories.{IsOfBase, history_at, jobs_at, jobs_read, rows_at, rows_begun}
 use Rattle.logged_script.specs.Tags.{commands_in}
 
-each-both : {X : Type 0} (P Q R : X → Type 0) (xs : List X) → ((x : X) → P x → Q x → R x) → Each P xs → Each Q xs → Each R xs
+pub each-both : {X : Type 0} (P Q R : X → Type 0) (xs : List X) → ((x : X) → P x → Q x → R x) → Each P xs → Each Q xs → Each R xs
 each-both P Q R [] f all both = tt
 each-both P Q R (x ∷ xs) f all both = (f x all.0 both.0, each-both P Q R xs f all.1 both.1)
 

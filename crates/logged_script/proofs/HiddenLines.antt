@@ -177,7 +177,7 @@ module _ (limit : ℕ) where
   named-by r line true named = named
   named-by r line false named = named-command r (command_at line) named
 
-  named-line : (r : Rows) (line : List ℕ) → AreNamed r → AreNamed (line_rows_by limit r line)
+  pub named-line : (r : Rows) (line : List ℕ) → AreNamed r → AreNamed (line_rows_by limit r line)
   unfolding line_rows_by
   named-line r line named = named-by r line (length line == 0) named
 

@@ -11,3 +11,6 @@ pub mod Based
 pub mod Compacting
 pub mod Sealed
 pub mod Forgetting
+pub mod JobsLeft
+pub mod Naming
+pub mod Anew

@@ -5,8 +5,9 @@ ghost use Rattle.durable_log.specs.Logs.{records_of, IsRest};
 ghost use Rattle.jsl_model.specs.Jobs.{JobTree};
 ghost use Rattle.script_engine.specs.Script.{catalogue_at};
 ghost use Rattle.script_log.specs.Runs.{History as LogHistory, history_of};
-ghost use Rattle.logged_script.specs.Compactions.{IsCompacted};
-ghost use Rattle.logged_script.specs.Histories.{Answers, jobs_at, jobs_read};
+ghost use Rattle.catalogue_laws.specs.Leaving.{KeepsJobs};
+ghost use Rattle.logged_script.specs.Compactions.{IsCompacted, IsCompactedOver};
+ghost use Rattle.logged_script.specs.Histories.{Answers, jobs_at, jobs_read, rows_at};
 
 use crate::catalogue::catalogue_at;
 use crate::engine::ScriptEngine;
@@ -70,6 +71,10 @@ pub fn compacted<J: RowRepository, B: RowRestoration<J>, const TAGS: bool>(
     // engine represents.
     ensures compacted { IfOk result (λ log. (h : LogHistory) → Answers TAGS J.limit J.rows engine.now h → jobs_at h ≡ jobs_read (catalogue_at line.now)
         → IsCompacted TAGS h line.now (history_of (records_of log.file.bytes.items))) }
+
+    // So it is over other jobs, if that has the jobs of all job executions as they were.
+    ensures over { IfOk result (λ log. (h : LogHistory) → Answers TAGS J.limit J.rows engine.now h → KeepsJobs (rows_at TAGS h) (jobs_read (catalogue_at line.now))
+        → IsCompactedOver TAGS h line.now (history_of (records_of log.file.bytes.items))) }
 
     ensures answers { IfOk result (λ log. Answers TAGS J.limit J.rows log.engine (history_of (records_of log.file.bytes.items))) }
     ensures rest { IfOk result (λ log. IsRest log.file.bytes.items log.file.rest) }

@@ -7,11 +7,13 @@ mod catalogue;
 mod compaction;
 mod engine;
 mod fault;
+mod jobs_left;
 mod law;
 mod opening;
 mod run;
 mod tags;
 mod text;
+mod to_compact;
 
 pub use catalogue::{catalogue_at, new_log};
 pub use compaction::{CompactionFault, compacted};
@@ -22,3 +24,4 @@ pub use opening::{OpeningFault, RestoredLog, restore};
 pub use run::answer_restored;
 pub use tags::{MAX_TAG, command_of};
 pub use text::log_fault_text;
+pub use to_compact::{LogToCompact, restore_to_compact};

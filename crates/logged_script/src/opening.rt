@@ -67,12 +67,15 @@ pub struct RestoredLog<J: RowRepository, const TAGS: bool> {
     pub engine: ScriptEngine<J, TAGS>,
 }
 
-// A log whose lines were run again.
+/// A log whose lines were run again.
 #[derive(Drop)]
-struct Replayed<J: RowRepository, const TAGS: bool> {
-    end: End,
-    grown: bool,
-    engine: ScriptEngine<J, TAGS>,
+pub(crate) struct Replayed<J: RowRepository, const TAGS: bool> {
+    /// What stands at the end of its file.
+    pub(crate) end: End,
+    /// Whether the given catalogue has more jobs than its own.
+    pub(crate) grown: bool,
+    /// The engine.
+    pub(crate) engine: ScriptEngine<J, TAGS>,
 }
 
 // Returns the fault of a log whose file can't be read as one.
@@ -120,8 +123,8 @@ fn replay_records<J: RowRepository, const TAGS: bool>(
     }
 }
 
-// Reads a log, restores its base, and runs its lines again.
-fn replay_file<J: RowRepository, B: RowRestoration<J>, const TAGS: bool>(
+/// Reads a log, restores its base, and runs its lines again.
+pub(crate) fn replay_file<J: RowRepository, B: RowRestoration<J>, const TAGS: bool>(
     alloc: Global,
     file: &[u8],
     line: &[u8],
@@ -159,8 +162,8 @@ fn replay_file<J: RowRepository, B: RowRestoration<J>, const TAGS: bool>(
     }
 }
 
-// Returns the bytes of the new file: a clean end, and one more record if the catalogue has grown.
-fn new_file(
+/// Returns the bytes of the new file: a clean end, and one more record if the catalogue has grown.
+pub(crate) fn new_file(
     alloc: Global,
     file: Vec<u8>,
     end: End,
@@ -186,6 +189,34 @@ fn new_file(
     };
     let file = with_record(alloc, file, entry)?;
     Ok(CleanLog { file, cut })
+}
+
+/// Returns a log whose lines were run again, and which goes on in its new file.
+pub(crate) fn gone_on<J: RowRepository, const TAGS: bool>(
+    alloc: Global,
+    file: Vec<u8>,
+    line: &[u8],
+    ran: Replayed<J, TAGS>,
+) -> Result<RestoredLog<J, TAGS>, AllocError>
+    requires end { IsEnd file.items ran.end }
+    requires short { length line.now ≤ 2 ^ 24 }
+    requires goes_on { GoesOnFrom (records_of file.items) line.now ran.grown }
+    requires answers { Answers TAGS J.limit J.rows ran.engine (replayed line.now (records_of file.items)) }
+    ensures records { IfOk result (λ log. records_of log.file.bytes.items ≡ records_begun (records_of file.items) line.now ran.grown) }
+    ensures rest { IfOk result (λ log. IsRest log.file.bytes.items log.file.rest) }
+    ensures cut { IfOk result (λ log. IsCutOff file.items log.cut.items) }
+    ensures reopens { IfOk result (λ log. IsTrue log.reopens → Reopens file.items log.file.bytes.items log.file.rest.end) }
+    ensures answers { IfOk result (λ log. Answers TAGS J.limit J.rows log.engine (history_of (records_of log.file.bytes.items))) }
+{
+    let Replayed { end, grown, engine } = ran;
+    let reopens = end.is_sealed && !grown;
+    let made = new_file(alloc, file, end, line, grown)?;
+    Ok(RestoredLog {
+        file: made.file,
+        cut: made.cut,
+        reopens,
+        engine,
+    })
 }
 
 /// Restores the log of a script with this catalogue: reads its file, restores the repository of its
@@ -229,15 +260,8 @@ pub fn restore<J: RowRepository, B: RowRestoration<J>, const TAGS: bool>(
         Ok(ran) => ran,
         Err(fault) => return Err(fault),
     };
-    let Replayed { end, grown, engine } = ran;
-    let reopens = end.is_sealed && !grown;
-    match new_file(alloc, file, end, line, grown) {
-        Ok(made) => Ok(RestoredLog {
-            file: made.file,
-            cut: made.cut,
-            reopens,
-            engine,
-        }),
+    match gone_on(alloc, file, line, ran) {
+        Ok(log) => Ok(log),
         Err(error) => Err(OpeningFault::from(error)),
     }
 }
