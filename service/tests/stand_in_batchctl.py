@@ -330,6 +330,17 @@ class Log:
             return {"fault": "LogBadBase", "record": based[-1][0] + 1}
         return None
 
+    def other_job(self, repository: Repository, catalogue: bytes, words: list[str]) -> int | None:
+        """The first job of the log's that keeps it from another catalogue. A compaction lets those go that aren't used."""
+        kept, given = list(repository.jobs.values()), json.loads(catalogue)["jobs"]
+        if given[: len(kept)] == kept:
+            return None
+        first = next(place for place, job in enumerate(kept) if given[place : place + 1] != [job])
+        if "--compact" not in words or self.fault()[0] == "refuse":
+            return first
+        used = {row["job"] for row in repository.executions.values()}
+        return next((place for place, job in enumerate(kept) if job["id"] in used and job not in given), None)
+
     def restore_record(self, repository: Repository, mark: bytes, line: bytes) -> None:
         if mark == b"c":
             self.last = line
@@ -397,6 +408,10 @@ def main() -> int:
             out.write(written(fault) + b"\n")
             return 7
         log.restore(repository)
+        job = log.other_job(repository, catalogue, words)
+        if job is not None:
+            out.write(written({"fault": "LogOtherCatalogue", "job": job}) + b"\n")
+            return 7
         log.begin(catalogue)
     repository.jobs = {job["id"]: job for job in json.loads(catalogue)["jobs"]}
     if log is not None and "--compact" in words and repository.count:

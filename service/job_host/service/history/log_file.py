@@ -236,5 +236,7 @@ def catalogue_of(path: Path) -> bytes | None:
     """The last catalogue of a file, if there is one."""
     if not path.exists():
         return None
-    lines = [record.line for record in records(path) if record.is_catalogue]
-    return lines[-1] if lines else None
+    last = None
+    for some in texts(path):
+        last = next((text[LINE] for text in reversed(some) if text[MARK] == CATALOGUE), last)
+    return last

@@ -3,17 +3,21 @@
 from __future__ import annotations
 
 import asyncio
+import logging
 from collections.abc import Awaitable, Callable, Sequence
 from pathlib import Path
+from typing import NamedTuple
 
 from job_host.service.history import log_file
-from job_host.service.history.coprocess import CoProcess, CoProcessEnded
+from job_host.service.history.coprocess import CatalogueRefused, CoProcess, CoProcessEnded
 from job_host.service.history.engine import STATE, Engine, Record, ReplayDiffers
 from job_host.service.history.log_file import KnownBase
 from job_host.service.keepers.batchctl_compact import COMPACT, reason
-from job_host.service.keepers.local_logs import LocalLogs
+from job_host.service.keepers.local_logs import CatalogueGrew, LocalLogs
 from job_host.service.stores.local_files import LocalFiles
 from job_host.service.stores.postgres_bases import Done, KeptBase, Made, PostgresBases
+
+log = logging.getLogger(__name__)
 
 CHUNK = 1_000
 # So many job executions are looked at between two other things that the instance does.
@@ -27,6 +31,13 @@ class NotCompacted(Exception):
     """batchctl hasn't made a base, or one that isn't of these operations. The text says why."""
 
 
+class LeanPlan(NamedTuple):
+    """A catalogue that some jobs leave as a base is made over it. `put` keeps the base with that catalogue."""
+
+    catalogue: bytes
+    put: Put
+
+
 class BaseMaking:
     """Makes bases of the operations that an engine has entered."""
 
@@ -36,12 +47,12 @@ class BaseMaking:
         self._dsns = dsns
         self._put = put
 
-    async def make(self, engine: Engine, until: int) -> KeptBase | None:
+    async def make(self, engine: Engine, until: int, plan: LeanPlan | None = None) -> KeptBase | None:
         """Makes a base of the operations up to `until`, all of which are kept. Returns the newest base at the end.
 
         That is another one if another instance has made it meanwhile. The table is as it was if this raises: what LOST has,
         NoPrimary, NotCompacted, BaseDamaged, BaseGone, OperationsMissing, CoProcessEnded, CatalogueRefused, CatalogueGrew,
-        ReplayDiffers or OSError.
+        ReplayDiffers, OSError or a problem. If batchctl lets no job leave the catalogue, the base is over the engine's.
         """
         bases = await PostgresBases.open(self._dsns)
         path: Path | None = None
@@ -50,17 +61,20 @@ class BaseMaking:
             before, history = await bases.newest(), await bases.history()
             since = 0 if before is None else before.number
             if since < until:
-                known = await self._made(bases, before, engine, until, path)
+                known, is_lean = await self._made(bases, before, engine, until, path, plan)
                 done, gone = await done_between(engine, since, until)
-                await self._put(bases, Made(known, before, history, path, done, gone))
+                put = plan.put if plan is not None and is_lean else self._put
+                await put(bases, Made(known, before, history, path, done, gone))
             return await bases.newest()
         finally:
             bases.close()
             if path is not None:
                 self._files.drop(path)
 
-    async def _made(self, bases: PostgresBases, before: KeptBase | None, engine: Engine, until: int, path: Path) -> KnownBase:
-        """Makes the file of a base, and returns by what it is known."""
+    async def _made(
+        self, bases: PostgresBases, before: KeptBase | None, engine: Engine, until: int, path: Path, plan: LeanPlan | None
+    ) -> tuple[KnownBase, bool]:
+        """Makes the file of a base, and returns by what it is known, and whether it is over the plan's catalogue."""
         catalogue = engine.process.catalogue
         if before is not None:
             await bases.write_to(before, path)
@@ -71,11 +85,20 @@ class BaseMaking:
             await finished(process)
         finally:
             await process.close()
-        process = await self._logs.start(path, catalogue, before, COMPACT)
+        process = await self._compacting(path, catalogue, before, plan)
         try:
-            return await self._checked(process, path, until, state)
+            return await self._checked(process, path, until, state), plan is not None and process.catalogue == plan.catalogue
         finally:
             await process.close()
+
+    async def _compacting(self, path: Path, catalogue: bytes, before: KeptBase | None, plan: LeanPlan | None) -> CoProcess:
+        """A co-process that compacts the file, over the plan's catalogue if batchctl takes it."""
+        if plan is not None:
+            try:
+                return await self._logs.start(path, plan.catalogue, before, COMPACT)
+            except (CatalogueGrew, CatalogueRefused) as fault:
+                log.warning("no job leaves the catalogue: %s", fault)
+        return await self._logs.start(path, catalogue, before, COMPACT)
 
     @staticmethod
     async def _checked(process: CoProcess, path: Path, until: int, state: Sequence[bytes]) -> KnownBase:

@@ -6,9 +6,11 @@ import asyncio
 import logging
 import time
 from collections.abc import Awaitable, Callable, Sequence
+from contextlib import nullcontext
 from dataclasses import replace
 from functools import partial
 from pathlib import Path
+from typing import TYPE_CHECKING
 
 from job_host.service.history import log_file
 from job_host.service.history.coprocess import CoProcess, CoProcessEnded
@@ -23,6 +25,9 @@ from job_host.service.stores.history import Rest
 from job_host.service.stores.sqlite import SqliteStore
 from job_host.service.terms import moments
 from job_host.service.terms.leases import Leases
+
+if TYPE_CHECKING:
+    from job_host.service.keepers.leaving import Leaving
 
 log = logging.getLogger(__name__)
 
@@ -47,8 +52,12 @@ async def note_all(engine: Engine, beside: Beside) -> None:
     await beside.do(lambda store: store.note_rest(rest))
 
 
+def nobody_leaves() -> None:
+    return None
+
+
 class Compacting:
-    """The compactions of one log. `note` is told of each as it begins, and as it ends."""
+    """The compactions of one log. `note` is told of each as it begins, and as it ends. `leaving` gives what may leave it."""
 
     def __init__(
         self,
@@ -59,6 +68,7 @@ class Compacting:
         reopen: Reopen,
         note: Callable[[Compaction], None],
         chaining: Chaining | None = None,
+        leaving: Callable[[], Leaving | None] = nobody_leaves,
     ) -> None:
         self._batchctl = batchctl
         self._path = path
@@ -67,6 +77,7 @@ class Compacting:
         self._reopen = reopen
         self._note = note
         self._chaining = chaining
+        self._leaving = leaving
         self._turn = asyncio.Lock()
         self._can: bool | None = None
 
@@ -91,11 +102,12 @@ class Compacting:
             self._due.note_tried()
             one, begun = Compaction(moments.clock()), time.monotonic()
             self._note(one)
+            leaving = self._leaving()
             try:
-                async with term.engine.turn:
+                async with nullcontext() if leaving is None else leaving.resting(), term.engine.turn:
                     begun = time.monotonic()
                     with self._leases.pausing():
-                        failure = await self._compact(term, beside)
+                        failure = await self._compact(term, beside, leaving)
             except BaseException as fault:
                 told = "the service ends" if isinstance(fault, asyncio.CancelledError) else f"{type(fault).__name__}: {fault}"
                 self._end(replace(one, seconds=time.monotonic() - begun, failure=told))
@@ -109,24 +121,29 @@ class Compacting:
         self._note(one)
         return one
 
-    async def _compact(self, term: EmbeddedTerm, beside: Beside) -> str:
+    async def _compact(self, term: EmbeddedTerm, beside: Beside, leaving: Leaving | None) -> str:
         """Returns why the log isn't compacted, if it isn't. All that it has is noted beside it before: it forgets tags."""
         engine = term.engine
         if term.failure is not None:
             raise term.failure
         state = await engine.ask(STATE)
         await term.until_committed(engine.entered)
-        if engine.is_compact:
+        versions = frozenset[str]() if leaving is None else leaving.versions(state.replies)
+        if engine.is_compact and not versions:
             return ""
         await note_all(engine, beside)
+        catalogue = leaving.line_without(versions) if leaving is not None and versions else engine.process.catalogue
         failure = ""
 
         async def open_next() -> CoProcess:
             nonlocal failure
-            process, failure = await self._reopened(engine, state.replies)
+            process, failure = await self._reopened(engine, catalogue, state.replies)
             return process
 
         await exchange(engine, open_next)
+        if leaving is not None and versions and engine.process.catalogue == catalogue:
+            log.warning("%s has no job instance of %d versions of jobs, which have left it", self._path, len(versions))
+            leaving.leave(versions)
         if not failure:
             term.note_compacted()
             await self._note_base(engine, beside)
@@ -140,11 +157,11 @@ class Compacting:
             if self._chaining is not None:
                 await asyncio.to_thread(self._chaining.begin)
 
-    async def _reopened(self, engine: Engine, state: Sequence[bytes]) -> tuple[CoProcess, str]:
+    async def _reopened(self, engine: Engine, catalogue: bytes, state: Sequence[bytes]) -> tuple[CoProcess, str]:
         """A co-process over the compacted log, or over the log as it was, and then why."""
         try:
             async with asyncio.timeout(MOST_SECONDS):
-                process = await self._reopen(engine.process.catalogue)
+                process = await self._reopen(catalogue)
         except asyncio.TimeoutError as fault:
             raise CoProcessEnded(f"batchctl didn't compact the log within {MOST_SECONDS:.0f} seconds") from fault
         try:

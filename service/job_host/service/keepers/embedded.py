@@ -49,6 +49,7 @@ from job_host.service.terms.term import Observers, TermSettings, not_yet
 
 if TYPE_CHECKING:
     from job_host.service.keepers.embedded_jobs import EmbeddedJobs
+    from job_host.service.keepers.leaving import Leaving
 
 log = logging.getLogger(__name__)
 
@@ -59,6 +60,7 @@ PRUNE_SECONDS = 3_600.0
 # How many keys are dropped at a time, so that calls needn't wait for all.
 PRUNED = 5_000
 LOG_NAME = "history.log"
+NO_JOBS = b'{"jobs":[]}'
 
 
 async def drop_all(beside: Beside, drop_some: Callable[[SqliteStore], bool]) -> None:
@@ -82,7 +84,14 @@ class EmbeddedKeeper(Keeper):
         self._chaining = Chaining(self._log) if settings.chain else None
         due = Due(settings.compact_at)
         self._compacting = Compacting(
-            settings.batchctl, self._log, leases, due, self._reopen_compact, self._note_compaction, self._chaining
+            settings.batchctl,
+            self._log,
+            leases,
+            due,
+            self._reopen_compact,
+            self._note_compaction,
+            self._chaining,
+            self._leaving,
         )
         self._sessions = Sessions({}, settings.bounds.clients)
         self._beside: Beside | None = None
@@ -206,6 +215,7 @@ class EmbeddedKeeper(Keeper):
         These are on the disk with their files before batchctl is told of them.
         """
         self.book = jobs.load()
+        self.book.take_over(await asyncio.to_thread(self._catalogue_kept))
         process = await self._open(self.book.line, self._behind_the_log) if self._log.exists() else None
         try:
             found = await asyncio.to_thread(jobs.plan, self.served)
@@ -221,6 +231,15 @@ class EmbeddedKeeper(Keeper):
         if process is not None:
             await self._end(process)
         return await self._open(self.book.line, self._behind_the_log)
+
+    def _catalogue_kept(self) -> bytes:
+        """The log's catalogue. There is none if the file can't be read: batchctl names what is wrong with it."""
+        try:
+            kept = log_file.catalogue_of(self._log) or NO_JOBS
+            jobs.jobs_of(kept)
+        except (OSError, ValueError, KeyError, TypeError):
+            return NO_JOBS
+        return kept
 
     async def _behind_the_log(self, given: bytes, refused: CatalogueRefused) -> bytes:
         """The catalogue that the log has, with the versions that it lacks behind it."""
@@ -314,8 +333,24 @@ class EmbeddedKeeper(Keeper):
 
     async def _reopen_compact(self, catalogue: bytes) -> CoProcess:
         """The co-process that goes on over the log, after it has compacted it."""
-        self._process = await self._open(catalogue, self._refuse, COMPACT)
+        self._process = await self._open(catalogue, self._as_before, COMPACT)
         return self._process
+
+    async def _as_before(self, given: bytes, refused: CatalogueRefused) -> bytes:
+        """The catalogue that the log has, if batchctl lets no job leave it."""
+        kept = await asyncio.to_thread(log_file.catalogue_of, self._log)
+        if kept is None or kept == given:
+            raise Fatal(f"{self._log}: {refused}") from refused
+        log.warning("no job leaves the catalogue of %s: %s", self._log, refused)
+        return kept
+
+    def _leaving(self) -> Leaving | None:
+        """The versions of jobs that may leave, if jobs are those of a folder."""
+        if self.changes is None or self.book is None:
+            return None
+        from job_host.service.keepers.leaving import Leaving
+
+        return Leaving(self.changes, self.book, self._note_change)
 
     def _note_compaction(self, one: Compaction) -> None:
         self.compaction = one

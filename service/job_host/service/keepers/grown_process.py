@@ -114,14 +114,14 @@ async def brought_on(logs: LocalLogs, store: PostgresStore, engine: Engine, line
     return grown
 
 
-async def renew(logs: LocalLogs, store: PostgresStore, term: PostgresTerm) -> None:
+async def renew(logs: LocalLogs, store: PostgresStore, term: PostgresTerm, catalogue: bytes) -> None:
     """Lets a batchctl that begins with the newest base take the place of a term's, which has all since its start.
 
     If it can't be begun, the other one goes on.
     """
     engine, epoch = term.engine, term.epoch
     try:
-        grown = await brought_on(logs, store, engine, engine.process.catalogue, epoch)
+        grown = await brought_on(logs, store, engine, catalogue, epoch)
     except FAILED as fault:
         log.warning("batchctl goes on with all since its start: %s %s", type(fault).__name__, fault)
         return

@@ -4,7 +4,8 @@ from __future__ import annotations
 
 import asyncio
 import json
-from collections.abc import Awaitable, Callable, Sequence
+from collections.abc import AsyncIterator, Awaitable, Callable, Sequence
+from contextlib import asynccontextmanager
 
 from job_host.catalogue import check
 from job_host.catalogue.faults import NoVerdict
@@ -50,6 +51,12 @@ class JobChanges:
         self._asked.add(task)
         task.add_done_callback(self._asked.discard)
         return await asyncio.shield(task)
+
+    @asynccontextmanager
+    async def resting(self) -> AsyncIterator[None]:
+        """No change is under way meanwhile."""
+        async with self._turn:
+            yield
 
     async def stop(self) -> None:
         """Waits for what is under way, and ends it if it takes long: it is kept, or it isn't."""

@@ -43,6 +43,7 @@ from job_host.service.terms.term import Observers, TermSettings, not_yet
 
 if TYPE_CHECKING:
     from job_host.service.keepers.postgres_jobs import PostgresJobs
+    from job_host.service.keepers.postgres_leaving import PostgresLeaving
 
 log = logging.getLogger(__name__)
 
@@ -265,7 +266,7 @@ class PostgresKeeper(Keeper):
         if self._jobs is None:
             await self._open_doors(term, begun)
         rounds = [term.commit_rounds(), term.desk.serve(), term.desk.watch(), self.leases.watch(term), self._prune(store, term)]
-        rounds.append(self._compacting.run(self._making, term, partial(renew, self._logs, store, term)))
+        rounds.append(self._compacting.run(self._making, term, partial(self._renew, store, term), partial(self._leaving, term)))
         if self._jobs is not None:
             rounds.append(self._lead_jobs(store, term, begun))
         try:
@@ -310,6 +311,19 @@ class PostgresKeeper(Keeper):
         while True:
             await term.grown.wait()
             self._note_epoch(term)
+
+    def _leaving(self, term: PostgresTerm) -> PostgresLeaving | None:
+        """The versions of jobs that may leave, if jobs are those of a folder."""
+        if self.changes is None or self.book is None:
+            return None
+        from job_host.service.keepers.leaving import Leaving
+        from job_host.service.keepers.postgres_leaving import PostgresLeaving
+
+        return PostgresLeaving(Leaving(self.changes, self.book), term, self._compacting.turn)
+
+    async def _renew(self, store: PostgresStore, term: PostgresTerm) -> None:
+        """Lets a batchctl that begins with the newest base go on in a term."""
+        await renew(self._logs, store, term, term.engine.process.catalogue if self.book is None else self.book.line)
 
     def _note_epoch(self, term: PostgresTerm) -> None:
         term.grown.clear()

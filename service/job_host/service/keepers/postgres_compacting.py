@@ -8,6 +8,7 @@ import time
 from collections.abc import Awaitable, Callable, Sequence
 from contextlib import suppress
 from dataclasses import replace
+from typing import TYPE_CHECKING
 
 from job_host.service.history.engine import Engine
 from job_host.service.keepers.base_making import BaseMaking
@@ -18,9 +19,16 @@ from job_host.service.stores.postgres_bases import KeptBase, Made, PostgresBases
 from job_host.service.terms import moments
 from job_host.service.terms.term import Term
 
+if TYPE_CHECKING:
+    from job_host.service.keepers.postgres_leaving import PostgresLeaving
+
 log = logging.getLogger(__name__)
 
 LOOK_SECONDS = 1.0
+
+
+def nobody_leaves() -> None:
+    return None
 
 
 class PostgresCompacting:
@@ -51,17 +59,28 @@ class PostgresCompacting:
         async with self.turn:
             return await bases.put(made)
 
-    async def run(self, making: BaseMaking, term: Term, renew: Callable[[], Awaitable[None]]) -> None:
-        """Makes a base whenever one is due, for ever. Behind each, `renew` lets the engine's co-process begin with it."""
+    async def run(
+        self,
+        making: BaseMaking,
+        term: Term,
+        renew: Callable[[], Awaitable[None]],
+        leaving: Callable[[], PostgresLeaving | None] = nobody_leaves,
+    ) -> None:
+        """Makes a base whenever one is due, for ever. Behind each, `renew` lets the engine's co-process begin with it.
+
+        `leaving` gives the jobs that may leave the catalogue.
+        """
         while True:
             await asyncio.sleep(LOOK_SECONDS)
             if self._due.is_now(term.engine) and await self.can():
-                one = await self.compact(making, term.engine, term.committed)
+                one = await self.compact(making, term.engine, term.committed, leaving())
                 if not one.failure:
                     async with self.turn:
                         await renew()
 
-    async def compact(self, making: BaseMaking, engine: Engine, until: int) -> Compaction:
+    async def compact(
+        self, making: BaseMaking, engine: Engine, until: int, leaving: PostgresLeaving | None = None
+    ) -> Compaction:
         """Makes a base of the first operations of an engine, all of which are kept, and returns what became of it.
 
         If it fails, the table is as it was. The term goes on.
@@ -71,7 +90,7 @@ class PostgresCompacting:
             one, begun = Compaction(moments.clock(), calls_wait=False), time.monotonic()
             self._note(one)
             try:
-                failure = await self._compact(making, engine, until)
+                failure = await self._compact(making, engine, until, leaving)
             except asyncio.CancelledError:
                 self._end(replace(one, seconds=time.monotonic() - begun, failure="the term ends, or the instance"))
                 raise
@@ -84,12 +103,13 @@ class PostgresCompacting:
         self._note(one)
         return one
 
-    async def _compact(self, making: BaseMaking, engine: Engine, until: int) -> str:
+    async def _compact(self, making: BaseMaking, engine: Engine, until: int, leaving: PostgresLeaving | None) -> str:
         """Returns why no base is made, if it isn't. Whatever fails fails beside the term."""
         try:
             # Not by wait_for, which loses a cancellation that comes as the base fails: both do if the server is gone.
             async with asyncio.timeout(MOST_SECONDS):
-                base = await making.make(engine, until)
+                plan = None if leaving is None else await leaving.plan()
+                base = await making.make(engine, until if plan is None else plan.until, None if plan is None else plan.lean)
         except asyncio.TimeoutError:
             return f"it took more than {MOST_SECONDS:.0f} seconds, or the server didn't answer"
         except Exception as fault:

@@ -6,6 +6,7 @@ import asyncio
 import logging
 from collections.abc import AsyncIterator, Sequence
 from contextlib import asynccontextmanager, suppress
+from dataclasses import dataclass
 from typing import Any
 
 from job_host.service.problems import Problem, unavailable
@@ -18,6 +19,13 @@ from job_host.service.versions.changes import Growth
 log = logging.getLogger(__name__)
 
 
+@dataclass
+class Growing:
+    """The epoch of a term, and at the end the one that it has from then on."""
+
+    epoch: int
+
+
 class PostgresTerm(Term):
     """The rounds of one epoch."""
 
@@ -28,6 +36,8 @@ class PostgresTerm(Term):
         self.epoch = epoch
         # Set as its epoch becomes a later one.
         self.grown = asyncio.Event()
+        # Held by what is kept under the epoch.
+        self._keeping = asyncio.Lock()
 
     async def find(self, session: int, key: str) -> KeptRequest | None:
         try:
@@ -59,6 +69,10 @@ class PostgresTerm(Term):
         return problem
 
     async def keep(self, items: Sequence[Item]) -> None:
+        async with self._keeping:
+            await self._keep(items)
+
+    async def _keep(self, items: Sequence[Item]) -> None:
         told = [(item, item.call.client) for item in items if item.call is not None]
         kept = [(item, client) for item, client in told if item.number is not None or item.is_keyed]
         clients = {client: item.session for item, client in kept if item.session not in self._kept_sessions}
@@ -82,8 +96,19 @@ class PostgresTerm(Term):
             raise unavailable("CommitFailed", "the change may have been kept: ask again by its key") from fault
         if epoch is None:
             raise unavailable("NotLeader", "another instance has taken over")
+        self._note_epoch(epoch)
+
+    def _note_epoch(self, epoch: int) -> None:
         self.epoch = epoch
         self.grown.set()
+
+    @asynccontextmanager
+    async def growing(self) -> AsyncIterator[Growing]:
+        """Lets something be kept between two rounds. If the block ends well, the term has the epoch that is noted there."""
+        async with self._keeping:
+            growing = Growing(self.epoch)
+            yield growing
+            self._note_epoch(growing.epoch)
 
 
 def leading_epoch(term: Term) -> int:

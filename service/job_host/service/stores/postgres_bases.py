@@ -3,17 +3,20 @@
 from __future__ import annotations
 
 import asyncio
-from collections.abc import Iterator, Sequence
+from collections.abc import Callable, Iterator, Sequence
+from contextlib import AbstractAsyncContextManager, AsyncExitStack
 from itertools import islice
 from pathlib import Path
-from typing import Any, NamedTuple
+from typing import Any, NamedTuple, Protocol
 
 import asyncpg
 
 from job_host.service.history.actions import Action
 from job_host.service.history.engine import Record
 from job_host.service.history.log_file import Head, KnownBase
+from job_host.service.problems import unavailable
 from job_host.service.stores.postgres_connection import closed_is_lost, connect_primary, or_drop
+from job_host.service.stores.postgres_schema import GROW, KEEP_CATALOGUE
 
 PART_BYTES = 1_048_576
 # So many rows are changed by a statement. Between two of them the leader's commits have the server for themselves.
@@ -115,6 +118,20 @@ class Made(NamedTuple):
         return max(1, -(-self.path.stat().st_size // PART_BYTES))
 
 
+class EpochGrowing(Protocol):
+    """An epoch that begins with a catalogue."""
+
+    epoch: int
+
+
+class Leaner(NamedTuple):
+    """The catalogue of a base that some jobs have left. It begins an epoch: `growing` lets nothing be kept under the one before
+    it from then on."""
+
+    line: bytes
+    growing: Callable[[], AbstractAsyncContextManager[EpochGrowing]]
+
+
 def slices(rows: Sequence[Any]) -> Iterator[list[Any]]:
     """So many rows at a time as a statement changes."""
     coming = iter(rows)
@@ -195,23 +212,36 @@ class PostgresBases:
             last = (rows[-1]["operation"], rows[-1]["execution"])
         return found
 
-    async def put(self, made: Made) -> bool:
+    async def put(self, made: Made, leaner: Leaner | None = None) -> bool:
         """Keeps a base, and deletes the operations that it stands for, in one transaction.
 
         Returns whether the base that it began from was still the newest one. If not, nothing is changed. If the table lacks
         operations between the two, it raises OperationsMissing, and nothing is changed. No row is locked that a commit needs.
+        But a catalogue that jobs have left needs the leader's row: a problem is raised if another instance leads.
         """
-        return bool(await or_drop(self._connection, PUT_SECONDS, self._put(made)))
+        return bool(await or_drop(self._connection, PUT_SECONDS, self._put(made, leaner)))
 
-    async def _put(self, made: Made) -> bool:
-        async with self._connection.transaction():
+    async def _put(self, made: Made, leaner: Leaner | None) -> bool:
+        async with AsyncExitStack() as until_kept, self._connection.transaction():
             await self._execute("select pg_advisory_xact_lock($1)", BASES_LOCK)
             if await self.newest() != made.before or await self.history() != made.history:
                 return False
             await self._keep(made)
             await self._keep_actions(made)
             await self._drop_operations(0 if made.before is None else made.before.number, made.known.head.operations)
+            if leaner is not None:
+                growing = await until_kept.enter_async_context(leaner.growing())
+                growing.epoch = await self._lean(growing.epoch, leaner.line)
         return True
+
+    async def _lean(self, epoch: int, line: bytes) -> int:
+        """Keeps a catalogue under the next epoch. Raises a problem if this one is over."""
+        rows = await self._fetch(GROW, epoch)
+        if not rows:
+            raise unavailable("NotLeader", "another instance has taken over")
+        begun = int(rows[0]["epoch"])
+        await self._execute(KEEP_CATALOGUE, begun, line.decode())
+        return begun
 
     async def _keep(self, made: Made) -> None:
         """Keeps the base in place of the one before."""

@@ -3,7 +3,7 @@
 from __future__ import annotations
 
 import json
-from collections.abc import Callable, Mapping, Sequence
+from collections.abc import Callable, Collection, Mapping, Sequence
 from typing import Any
 
 from job_host.catalogue.jobs import ForWorkers, JobFile, jobs_of
@@ -12,7 +12,7 @@ from job_host.catalogue.text import MOST_LINE_BYTES
 from job_host.catalogue.names import VERSIONED_NAMES, id_of
 from job_host.protocol.lines import compact
 from job_host.service.problems import Problem
-from job_host.service.versions.changes import APPLY, WITHDRAW, Change
+from job_host.service.versions.changes import APPLY, RETURN, WITHDRAW, Change
 
 
 class FileNotKept(Exception):
@@ -25,7 +25,9 @@ class JobBook:
     def __init__(self, file_of: Callable[[Change], JobFile | None], read: Callable[[JobFile], ForWorkers]) -> None:
         self._file_of = file_of
         self._read = read
+        # Those of the catalogue, and beside them those that have left it.
         self._jobs: dict[str, Mapping[str, Any]] = {}
+        self._known: dict[str, Mapping[str, Any]] = {}
         self._applied: dict[str, Change] = {}
         self._for_workers: dict[str, ForWorkers] = {}
         self._withdrawn: set[str] = set()
@@ -43,23 +45,56 @@ class JobBook:
             self._withdrawn.discard(change.name)
             if change.action == APPLY and change.job is not None:
                 self._applied[change.id] = change
-                self._jobs.setdefault(change.id, change.job)
+                self._known.setdefault(change.id, change.job)
                 self._newest[change.name] = max(self.newest(change.name), change.version)
+            self._jobs |= self._added([change])
         self.line = self.with_changes(())
 
     def take_over(self, catalogue: bytes) -> None:
-        """The catalogue that a history has: its jobs come first, as they are. A change that made another one isn't theirs."""
+        """The catalogue that a history has: its jobs come first, as they are. A change that made another one isn't theirs.
+
+        Behind them stand versions that can be started. Other ones have left the catalogue, or were never there.
+        """
         kept = jobs_of(catalogue)
         self._applied = {job: one for job, one in self._applied.items() if job not in kept or one.job == kept[job]}
         self._for_workers.clear()
-        self._jobs = {**kept, **{job: one for job, one in self._jobs.items() if job not in kept}}
         for name, versions in VERSIONED_NAMES.versions_in(catalogue).items():
             self._newest[name] = max(self.newest(name), VERSIONED_NAMES.of(versions[-1]).version)
+        others = {job: one for job, one in self._jobs.items() if job not in kept and self._can_be_started(job)}
+        self._jobs = {**kept, **others}
+        self._known |= kept
         self.line = self.with_changes(())
+
+    def _can_be_started(self, job: str) -> bool:
+        """Whether a start of its job has this version."""
+        name, version = VERSIONED_NAMES.of(job)
+        return version == self.newest(name) and name not in self._withdrawn
+
+    def unneeded(self, used: Collection[str]) -> set[str]:
+        """The versions that may leave the catalogue: no start has them, and they aren't `used`, by job instances.
+
+        The newest version of a job that is withdrawn may come back, so it stays if its file isn't kept.
+        """
+        idle = {job: VERSIONED_NAMES.of(job) for job in self._jobs if job not in used and not self._can_be_started(job)}
+        return {job for job, (name, version) in idle.items() if self.is_applied(job) or version < self.newest(name)}
+
+    def without(self, jobs: Collection[str]) -> bytes:
+        """The catalogue's line without these versions."""
+        return compact({"jobs": [one for job, one in self._jobs.items() if job not in jobs]})
+
+    def leave(self, jobs: Collection[str]) -> None:
+        """These versions have left the catalogue."""
+        self._jobs = {job: one for job, one in self._jobs.items() if job not in jobs}
+        self.line = self.with_changes(())
+
+    def _added(self, changes: Sequence[Change]) -> dict[str, Mapping[str, Any]]:
+        """The versions that changes bring into the catalogue. One that has left it comes back as it was."""
+        told = {one.id: self._known.get(one.id) if one.action == RETURN else one.job for one in changes}
+        return {job: one for job, one in told.items() if one is not None and job not in self._jobs}
 
     def with_changes(self, changes: Sequence[Change]) -> bytes:
         """The catalogue's line, with the versions of these changes. Raises a problem if it has no room for them."""
-        added = {one.id: one.job for one in changes if one.job is not None and one.id not in self._jobs}
+        added = self._added(changes)
         line = compact({"jobs": [*self._jobs.values(), *added.values()]})
         if added and len(self._jobs) + len(added) > MOST_JOBS:
             raise catalogue_full(f"a history has at most {MOST_JOBS} jobs, and each version is one")
@@ -75,7 +110,8 @@ class JobBook:
         return list(self._newest)
 
     def job(self, name: str, version: int) -> Mapping[str, Any]:
-        return self._jobs[id_of(name, version)]
+        """A version, which may have left the catalogue."""
+        return self._known[id_of(name, version)]
 
     def is_withdrawn(self, name: str) -> bool:
         return name in self._withdrawn
@@ -114,4 +150,5 @@ class JobBook:
 
 
 def catalogue_full(told: str) -> Problem:
-    return Problem("CatalogueFull", 409, f"{told}: begin a new history")
+    cure = "versions without job instances leave it as the history is compacted"
+    return Problem("CatalogueFull", 409, f"{told}: {cure}")
