@@ -17,6 +17,9 @@ compacted log but for the digits in its lines, of which numbers have more as yea
 memory of an opening with a compaction and of one without. Neither has a line, and the quickest of some counts. With `--replies`
 neither seconds nor memory are compared, as in the gate.
 
+With `--instructions` the two nights that are compared have the instructions of both openings, too, which callgrind counts
+(`apt-get install valgrind`). They are compared in place of seconds: other work on the machine doesn't change them.
+
 The log stands in DIR, else in the folder of temporary files. One log is kept at a time, with room for its compacted copy.
 """
 
@@ -25,6 +28,7 @@ from __future__ import annotations
 import argparse
 import json
 import os
+import re
 import subprocess
 import sys
 import tempfile
@@ -40,11 +44,13 @@ OPERATIONS = CHECKPOINTS + 3
 # Each hundredth night is told, and those after which nothing should grow any more.
 TOLD = 100
 TURNS = 5
+CALLGRIND = ("valgrind", "--tool=callgrind", "--callgrind-out-file=/dev/null")
+COLLECTED = re.compile(rb"Collected : (\d+)")
 # What stands before the line of a record.
 FRAME_BYTES = 51
 DIGITS = b"0123456789"
 # What may differ, by the first night from which on nights are purged.
-MOST_BYTES, MOST_SECONDS, MOST_MEMORY, MOST_OPENINGS = 0.02, 0.05, 0.05, 2.5
+MOST_BYTES, MOST_COST, MOST_MEMORY, MOST_OPENINGS = 0.02, 0.05, 0.05, 2.5
 
 
 def line_of(value: object) -> bytes:
@@ -60,6 +66,17 @@ class Measured:
 
 
 @dataclass(frozen=True)
+class Counted:
+    """Instructions of an opening with a compaction, and of one without."""
+
+    compaction: int
+    opening: int
+
+    def __str__(self) -> str:
+        return f"{self.opening:,} instructions open it, and {self.compaction:,} compact it"
+
+
+@dataclass(frozen=True)
 class State:
     """A log behind a night: its bytes when it is compacted, all and but for digits, and openings with and without one."""
 
@@ -68,6 +85,14 @@ class State:
     undigited: int
     compaction: Measured
     opening: Measured
+    counted: Counted | None = None
+
+    @property
+    def openings(self) -> float:
+        """How many openings one with a compaction takes."""
+        if self.counted is not None:
+            return self.counted.compaction / self.counted.opening
+        return self.compaction.seconds / self.opening.seconds
 
     def __str__(self) -> str:
         mib = self.size / 2**20
@@ -110,9 +135,20 @@ class Log:
         """Runs no line over the log, some times."""
         return min((self.run(b"", *words)[1] for _ in range(TURNS)), key=lambda measured: measured.seconds)
 
-    def state(self, night: int) -> State:
+    def counted(self, *words: str) -> int:
+        """The instructions of a run without a line."""
+        command: list[str | Path] = [*CALLGRIND, self.program, "script", "--log", str(self.path), *words]
+        done = subprocess.run(command, input=line_of(CATALOGUE), capture_output=True, check=False)
+        found = COLLECTED.search(done.stderr)
+        if done.returncode or found is None:
+            sys.exit(f"callgrind ended with status {done.returncode}: {done.stderr[-400:]!r}")
+        return int(found[1])
+
+    def state(self, night: int, instructions: bool) -> State:
         compaction = self.quickest("--compact")
-        return State(night, self.path.stat().st_size, undigited(self.path), compaction, self.quickest())
+        size, bare, opening = self.path.stat().st_size, undigited(self.path), self.quickest()
+        counted = Counted(self.counted("--compact"), self.counted()) if instructions else None
+        return State(night, size, bare, compaction, opening, counted)
 
 
 # The lines of a job execution and the replies to them, in which its number stands in place of %(n)d, and moments of %(at)d.
@@ -213,21 +249,24 @@ def compare(first: State, last: State, replies: bool) -> list[str]:
     grown = growth("bytes but for digits", first.undigited, last.undigited, MOST_BYTES)
     if replies:
         return grown
-    grown += growth("seconds of an opening", first.opening.seconds, last.opening.seconds, MOST_SECONDS)
+    if first.counted is not None and last.counted is not None:
+        grown += growth("instructions of an opening", first.counted.opening, last.counted.opening, MOST_COST)
+    else:
+        grown += growth("seconds of an opening", first.opening.seconds, last.opening.seconds, MOST_COST)
     grown += growth("memory of an opening", first.opening.memory, last.opening.memory, MOST_MEMORY)
-    openings = last.compaction.seconds / last.opening.seconds
-    return [*grown, *([f"a compaction takes {openings:.2f} openings"] if openings > MOST_OPENINGS else [])]
+    return [*grown, *([f"a compaction takes {last.openings:.2f} openings"] if last.openings > MOST_OPENINGS else [])]
 
 
-def measure(log: Log, nights: int, kept: int, jobs: int) -> tuple[State, State] | None:
+def measure(log: Log, nights: int, kept: int, jobs: int, instructions: bool) -> tuple[State, State] | None:
     """Runs all nights. Returns the states to compare, if nights were purged."""
     print(HEADER)
     first: State | None = None
     for night in range(nights):
         night_of(log, night, jobs, kept)
-        if night + 1 in (kept + 1, nights) or (night + 1) % TOLD == 0:
-            state = log.state(night + 1)
-            print(state, flush=True)
+        is_compared = night + 1 in (kept + 1, nights)
+        if is_compared or (night + 1) % TOLD == 0:
+            state = log.state(night + 1, instructions and is_compared)
+            print(state, *([] if state.counted is None else [state.counted]), sep="\n", flush=True)
             first = first or (state if night >= kept else None)
     restart(log, nights * jobs)
     operations = nights * jobs * OPERATIONS
@@ -243,10 +282,12 @@ def main() -> None:
     parser.add_argument("--kept", type=int, default=30)
     parser.add_argument("--jobs", type=int, default=3260)
     parser.add_argument("--folder", type=Path)
+    parser.add_argument("--instructions", action="store_true")
     parser.add_argument("--replies", action="store_true")
     given = parser.parse_args()
     with tempfile.TemporaryDirectory(dir=given.folder) as folder:
-        states = measure(Log(given.program, Path(folder) / "log"), given.nights, given.kept, given.jobs)
+        log = Log(given.program, Path(folder) / "log")
+        states = measure(log, given.nights, given.kept, given.jobs, given.instructions)
     grown = compare(*states, given.replies) if states else []
     if grown:
         sys.exit("\n".join(grown))

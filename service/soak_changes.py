@@ -5,9 +5,13 @@
     service/soak_changes.py --postgres                    the same over PostgreSQL
     service/soak_changes.py --changes 10 --clients 3 --kills 2
 
+The history is compacted each half a second, and clients purge what has ended. So versions leave the catalogue all the time, and
+those that are withdrawn come back.
+
 At the end it compares what clients were answered with the service and with the log: no request is refused for a change, each
-restart has the version with which its job instance began, and no change that was acknowledged is lost. It ends with status 1
-if anything is otherwise. The program is JOBHOST_BATCHCTL, or the one that this clone has built.
+restart has the version with which its job instance began, no change that was acknowledged is lost, and each version that
+nobody needs has left. It ends with status 1 if anything is otherwise. The program is JOBHOST_BATCHCTL, or the one that this
+clone has built.
 """
 
 from __future__ import annotations
@@ -22,7 +26,7 @@ import sys
 import tempfile
 import uuid
 from collections import Counter
-from collections.abc import Awaitable, Callable
+from collections.abc import Awaitable, Callable, Collection
 from contextlib import suppress
 from dataclasses import dataclass, field
 from pathlib import Path
@@ -43,9 +47,11 @@ from job_host.commands.program import find_batchctl  # noqa: E402
 CHANGES, CLIENTS, KILLS = 200, 8, 20
 NAMES = ("nightly", "weekly", "short")
 PASSING = (408, 429, 503)
-# A stop may come too late, and a claim may find nothing.
-MAY_BE_LATE = ("JobExecutionNotRunningException", "NotClaimer")
+# A stop or a purge may come too late, or too early, and a claim may find nothing.
+MAY_BE_LATE = ("JobExecutionNotRunningException", "JobExecutionIsRunningException", "NotClaimer")
+SERVICE = Path(__file__).resolve().with_name("soak_changes_service.py")
 LONGEST = 120.0
+LEAVING_SECONDS = 20.0
 
 
 @dataclass(frozen=True)
@@ -72,6 +78,8 @@ class Seen:
     asked: Counter[str] = field(default_factory=lambda: Counter(dict.fromkeys(NAMES, 1)))
     answers: Counter[str] = field(default_factory=Counter)
     withdrawn: set[str] = field(default_factory=set)
+    # The job instances that were purged, or may have been.
+    purged: set[int] = field(default_factory=set)
 
 
 class Part:
@@ -89,6 +97,7 @@ class Part:
         else:
             words += ["--data", str(self.data)]
         self.service = Process(folder / "service.log", *words)
+        self.service.words[1] = str(SERVICE)
 
     async def begin(self) -> None:
         self.service.start()
@@ -145,7 +154,7 @@ class Client:
 
 
 class Starter(Client):
-    """Starts jobs, runs what it claims, stops some, and restarts what is FAILED or STOPPED of its own."""
+    """Starts jobs, runs what it claims, stops some, and restarts or purges what is FAILED or STOPPED of its own."""
 
     def __init__(self, *given: Any) -> None:
         super().__init__(*given)
@@ -153,7 +162,7 @@ class Starter(Client):
 
     async def run(self, is_over: asyncio.Event) -> None:
         while not is_over.is_set():
-            await self.chance.choice([self._start, self._work, self._work, self._stop, self._restart])()
+            await self.chance.choice([self._start, self._work, self._work, self._stop, self._restart, self._purge])()
 
     async def _start(self) -> None:
         job, least = self.chance.choice(NAMES), dict(self.seen.applied)
@@ -194,6 +203,18 @@ class Starter(Client):
             del self._own[execution]
             answer = await self.answered("restart", lambda key: self.caller.change(execution, "restart", key))
             self._note(self.seen.restarts, answer, one.job, one.version, one.version)
+
+    async def _purge(self) -> None:
+        """Purges a job instance of its own, if its newest job execution has ended."""
+        if not self._own:
+            return
+        execution, one = self.chance.choice(list(self._own.items()))
+        told = await self.answered("read", lambda key: self.caller.ask("GET", f"/batch/jobexecutions/{execution}"))
+        if told.told["batchStatus"] in ("COMPLETED", "FAILED", "STOPPED"):
+            del self._own[execution]
+            self.seen.purged.add(one.instance)
+            path = f"/batch/jobinstances/{one.instance}"
+            await self.answered("purge", lambda key: self.caller.ask("DELETE", path, key=key))
 
 
 class Changer(Client):
@@ -275,22 +296,28 @@ async def check(part: Part, seen: Seen) -> None:
     caller = Caller(part.service.url, "checker")
     began: dict[int, int] = {}
     for one in (*seen.starts, *seen.restarts):
-        await check_begun(one, began, caller)
+        await check_begun(one, began, seen.purged, caller)
     executions = [one.execution for one in (*seen.starts, *seen.restarts)]
     if len(set(executions)) < len(executions):
         raise Wrong("two calls were told of one job execution")
     check_claims(seen, began)
     await check_versions(part, seen, caller)
     check_files(part, seen)
+    await check_left(seen, caller)
 
 
-async def check_begun(one: Started, began: dict[int, int], caller: Caller) -> None:
-    """A job execution is there as it was told, and has the version with which its job instance began."""
+async def check_begun(one: Started, began: dict[int, int], purged: Collection[int], caller: Caller) -> None:
+    """A job execution is there as it was told unless it was purged, and has the version with which its job instance began."""
     if not one.least <= one.version <= one.most:
         raise Wrong(f"{one} has another version")
     if began.setdefault(one.instance, one.version) != one.version:
         raise Wrong(f"{one} has another version than its job instance, which began with {began[one.instance]}")
-    told = (await caller.ask("GET", f"/batch/jobexecutions/{one.execution}")).told
+    answer = await caller.ask("GET", f"/batch/jobexecutions/{one.execution}")
+    if one.instance in purged:
+        if answer.status != 404:
+            raise Wrong(f"{one} was purged, and the service tells {answer}")
+        return
+    told = answer.told
     if (told.get("jobName"), told.get("version", 1), told.get("instanceId")) != (one.job, one.version, one.instance):
         raise Wrong(f"{one} was acknowledged, and the service tells {told}")
 
@@ -311,6 +338,32 @@ async def check_versions(part: Part, seen: Seen, caller: Caller) -> None:
             raise Wrong(f"{job} has the versions {versions}, and {seen.applied[job]} were acknowledged")
         if told["withdrawn"] != (job in seen.withdrawn):
             raise Wrong(f"{job}: {told['withdrawn']=}")
+
+
+async def check_left(seen: Seen, caller: Caller) -> None:
+    """Behind a compaction the catalogue has the versions of job instances that are there, and those that can be started."""
+    can_start = [job for job in NAMES if job not in seen.withdrawn]
+    if not can_start:
+        return
+    if (await caller.start(can_start[0])).status != 201:
+        raise Wrong(f"{can_start[0]} can't be started")
+    there = {(one.job, one.version) for one in (*seen.starts, *seen.restarts) if one.instance not in seen.purged}
+    needed, found = there | {(job, seen.applied[job]) for job in can_start}, await versions_in(seen, caller)
+    with suppress(asyncio.TimeoutError):
+        async with asyncio.timeout(LEAVING_SECONDS):
+            while found != needed:
+                await asyncio.sleep(0.2)
+                found = await versions_in(seen, caller)
+    if found != needed:
+        raise Wrong(f"the catalogue has {sorted(found - needed)}, which nobody needs, and lacks {sorted(needed - found)}")
+    seen.answers["versions that left the catalogue"] = sum(seen.applied.values()) - len(found)
+
+
+async def versions_in(seen: Seen, caller: Caller) -> set[tuple[str, int]]:
+    """The versions of the catalogue."""
+    every = [(job, version) for job in NAMES for version in range(1, seen.applied[job] + 1)]
+    asked = [await caller.ask("GET", f"/batch/catalogue?jobName={job}&version={version}") for job, version in every]
+    return {one for one, answer in zip(every, asked, strict=True) if answer.status == 200}
 
 
 def check_files(part: Part, seen: Seen) -> None:

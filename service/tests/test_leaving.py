@@ -385,6 +385,22 @@ async def test_a_job_that_is_brought_back_meanwhile_stays(shared: ServeSettings,
         assert ids(instance) == ["nightly", "short"] and await caller.status(started.told["executionId"]) == "STARTING"
 
 
+async def test_a_base_has_all_that_was_looked_at(shared: ServeSettings) -> None:
+    """What was made of a version, and purged since an earlier operation, stands before the base that the version leaves by."""
+    async with running(shared) as instance:
+        caller = Caller(instance.url)
+        await caller.start("short")
+        keeper, earlier = keeper_of(instance), keeper_of(instance).committed
+        await make_versions(caller)
+        await purge(caller, 2, 3, 4)
+        term = cast(Any, keeper.term)
+        done = await keeper._compacting.compact(keeper._making, term.engine, earlier, keeper._leaving(term))
+        assert done.failure == "" and await bases_in(shared) == [(engine_of(instance).entered, 1)]
+        assert await jobs_of(shared) == ["short", "nightly@4"]
+    async with running(shared) as instance:
+        assert (await Caller(instance.url).start()).told["version"] == 4
+
+
 async def test_versions_may_come_while_others_leave(shared: ServeSettings, monkeypatch: pytest.MonkeyPatch) -> None:
     async with running(shared) as instance:
         caller = Caller(instance.url)
