@@ -389,7 +389,7 @@ async def test_a_base_has_all_that_was_looked_at(shared: ServeSettings) -> None:
     """What was made of a version, and purged since an earlier operation, stands before the base that the version leaves by."""
     async with running(shared) as instance:
         caller = Caller(instance.url)
-        await caller.start("short")
+        await fail_one(caller, "short")
         keeper, earlier = keeper_of(instance), keeper_of(instance).committed
         await make_versions(caller)
         await purge(caller, 2, 3, 4)
