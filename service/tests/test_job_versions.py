@@ -426,9 +426,9 @@ async def test_operations_between_growth_and_new_process(shared: ServeSettings, 
     """They are kept under the epoch that began with the catalogue, and are known afterwards."""
     take_place = GrownProcess.take_place
 
-    async def take_place_later(grown: GrownProcess, epoch: int) -> None:
+    async def take_place_later(grown: GrownProcess) -> None:
         assert [(await Caller(instance.url).start("short")).status for _ in range(3)] == [201, 201, 201]
-        await take_place(grown, epoch)
+        await take_place(grown)
 
     monkeypatch.setattr(GrownProcess, "take_place", take_place_later)
     async with running(shared) as instance:

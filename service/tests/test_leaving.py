@@ -24,6 +24,7 @@ from job_host.service.keepers import leaving as module
 from job_host.service.keepers.base_making import BaseMaking
 from job_host.service.keepers.compacting import Compacting
 from job_host.service.keepers.embedded import LOG_NAME
+from job_host.service.keepers.grown_process import GrownProcess
 from job_host.service.keepers.batchctl_compact import can_compact
 from job_host.service.keepers.keeper import Compaction, Fatal
 from job_host.service.keepers.postgres import PostgresKeeper
@@ -367,8 +368,11 @@ async def is_epoch(instance: Instance, least: int) -> bool:
     return instance.service.keeper.epoch >= least
 
 
-async def test_a_job_that_is_brought_back_meanwhile_stays(shared: ServeSettings, monkeypatch: pytest.MonkeyPatch) -> None:
-    """Its base isn't kept. The next one is."""
+@pytest.mark.parametrize("again", [False, True])
+async def test_a_job_that_is_brought_back_meanwhile_stays(
+    shared: ServeSettings, again: bool, monkeypatch: pytest.MonkeyPatch
+) -> None:
+    """Its base isn't kept, also if it is withdrawn again: it was started between. The next base is kept."""
     async with running(shared) as instance:
         caller = Caller(instance.url)
         await caller.start()
@@ -378,6 +382,8 @@ async def test_a_job_that_is_brought_back_meanwhile_stays(shared: ServeSettings,
         await halt.reached.wait()
         assert brief(await caller.apply("short", job_file("first", "short"))) == (200, 1, True)
         started = await caller.start("short")
+        if again:
+            assert brief(await withdrawn(caller, "short")) == (200, 1, True)
         halt.go_on.set()
         assert "was brought back meanwhile" in (await making).failure
         assert await bases_in(shared) == [] and await jobs_of(shared) == ["nightly", "short"]
@@ -459,7 +465,31 @@ async def test_a_batchctl_that_goes_on_with_all_makes_no_difference(
         done = await keeper._compacting.compact(keeper._making, term.engine, keeper.committed, keeper._leaving(term))
         assert done.failure == "" and len(ids(instance)) == 5 and await jobs_of(shared) == ["short", "nightly@3", "nightly@4"]
         assert (await caller.start(day="later")).told["version"] == 4
+        done = await keeper._compacting.compact(keeper._making, term.engine, keeper.committed, keeper._leaving(term))
+        assert done.failure == "" and len(ids(instance)) == 5 and await bases_in(shared) == [(engine_of(instance).entered, 1)]
         assert brief(await caller.apply("nightly", job_file("version 5"))) == (200, 5, True)
         assert await jobs_of(shared) == ids(instance) == ["short", "nightly@3", "nightly@4", "nightly@5"]
     async with running(shared) as instance:
         assert (await Caller(instance.url).start()).told["version"] == 5
+
+
+async def test_a_job_is_withdrawn_as_a_new_batchctl_takes_the_place(
+    shared: ServeSettings, monkeypatch: pytest.MonkeyPatch
+) -> None:
+    """That begins an epoch, under which the next operations are kept: they are replayed all the same."""
+    take_place = GrownProcess.take_place
+
+    async def take_place_later(grown: GrownProcess) -> None:
+        caller = Caller(instance.url)
+        assert brief(await withdrawn(caller, "short")) == (200, 1, True)
+        assert [(await caller.start()).status for _ in range(3)] == [201, 201, 201]
+        await take_place(grown)
+
+    async with running(shared) as instance:
+        await Caller(instance.url).start()
+        term = cast(Any, keeper_of(instance).term)
+        with pytest.MonkeyPatch.context() as patch:
+            patch.setattr(GrownProcess, "take_place", take_place_later)
+            assert (await compact(instance)).failure == ""
+        assert term is keeper_of(instance).term and term.failure is None
+        assert (await Caller(instance.url).start()).told["executionId"] == 5

@@ -106,7 +106,7 @@ async def test_a_base_of_fewer_operations_than_are_known(basing: Make) -> None:
     async with running(made) as instance:
         await make_history(instance.url)
         before, done, keeper = await lists(instance.url), await done_in(instance.url, every), keeper_of(instance)
-        base = await keeper._making.make(engine_of(instance), 6)
+        base = await keeper._making.make(engine_of(instance), 6, engine_of(instance).process.catalogue)
         assert base is not None and await operations_in(made) == [1, *range(7, 15)]
         assert [row[0] for row in done[0]] == ["purge", "start"]
         async with running(made, "follower") as two:
@@ -356,9 +356,9 @@ async def test_a_leader_makes_a_base_by_itself_and_once(basing: Make, monkeypatc
     tried: list[int] = []
     make = BaseMaking.make
 
-    async def note(making: BaseMaking, engine: Any, most: int) -> Any:
+    async def note(making: BaseMaking, engine: Any, most: int, catalogue: bytes) -> Any:
         tried.append(most)
-        return await make(making, engine, most)
+        return await make(making, engine, most, catalogue)
 
     monkeypatch.setattr(BaseMaking, "make", note)
     monkeypatch.setattr(due, "MANY", 14)

@@ -408,7 +408,7 @@ async def test_the_connection_of_a_base_is_no_leader(basing: Make, monkeypatch: 
         monkeypatch.setattr(keeper_of(one)._store, "commit", never)
         await two.until_role("leader")
         assert (await Caller(two.url).start("short")).operations == 15
-        base = await making.make(engine, 14)
+        base = await making.make(engine, 14, engine.process.catalogue)
         assert base is not None and base.number == 14
         assert (await operations_in(made), await bases_in(made)) == ([1, 15], [(14, 1)])
         assert (await Caller(two.url, "two").finish(4)).operations == 16

@@ -47,12 +47,12 @@ class BaseMaking:
         self._dsns = dsns
         self._put = put
 
-    async def make(self, engine: Engine, until: int, plan: LeanPlan | None = None) -> KeptBase | None:
+    async def make(self, engine: Engine, until: int, catalogue: bytes, plan: LeanPlan | None = None) -> KeptBase | None:
         """Makes a base of the operations up to `until`, all of which are kept. Returns the newest base at the end.
 
         That is another one if another instance has made it meanwhile. The table is as it was if this raises: what LOST has,
         NoPrimary, NotCompacted, BaseDamaged, BaseGone, OperationsMissing, CoProcessEnded, CatalogueRefused, CatalogueGrew,
-        ReplayDiffers, OSError or a problem. If batchctl lets no job leave the catalogue, the base is over the engine's.
+        ReplayDiffers, OSError or a problem. If batchctl lets no job leave the catalogue, the base is over that as it was.
         """
         bases = await PostgresBases.open(self._dsns)
         path: Path | None = None
@@ -61,7 +61,7 @@ class BaseMaking:
             before, history = await bases.newest(), await bases.history()
             since = 0 if before is None else before.number
             if since < until:
-                known, is_lean = await self._made(bases, before, engine, until, path, plan)
+                known, is_lean = await self._made(bases, before, catalogue, until, path, plan)
                 done, gone = await done_between(engine, since, until)
                 put = plan.put if plan is not None and is_lean else self._put
                 await put(bases, Made(known, before, history, path, done, gone))
@@ -72,10 +72,9 @@ class BaseMaking:
                 self._files.drop(path)
 
     async def _made(
-        self, bases: PostgresBases, before: KeptBase | None, engine: Engine, until: int, path: Path, plan: LeanPlan | None
+        self, bases: PostgresBases, before: KeptBase | None, catalogue: bytes, until: int, path: Path, plan: LeanPlan | None
     ) -> tuple[KnownBase, bool]:
         """Makes the file of a base, and returns by what it is known, and whether it is over the plan's catalogue."""
-        catalogue = engine.process.catalogue
         if before is not None:
             await bases.write_to(before, path)
         process = await self._logs.start(path, catalogue, before)

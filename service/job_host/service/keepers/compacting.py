@@ -128,11 +128,11 @@ class Compacting:
             raise term.failure
         state = await engine.ask(STATE)
         await term.until_committed(engine.entered)
-        versions = frozenset[str]() if leaving is None else leaving.versions(state.replies)
-        if engine.is_compact and not versions:
+        leavers = None if leaving is None else leaving.leavers(state.replies)
+        if engine.is_compact and leavers is None:
             return ""
         await note_all(engine, beside)
-        catalogue = leaving.line_without(versions) if leaving is not None and versions else engine.process.catalogue
+        catalogue = engine.process.catalogue if leavers is None else leavers.line
         failure = ""
 
         async def open_next() -> CoProcess:
@@ -141,9 +141,9 @@ class Compacting:
             return process
 
         await exchange(engine, open_next)
-        if leaving is not None and versions and engine.process.catalogue == catalogue:
-            log.warning("%s has no job instance of %d versions of jobs, which have left it", self._path, len(versions))
-            leaving.leave(versions)
+        if leaving is not None and leavers is not None and engine.process.catalogue == catalogue:
+            log.warning("%s has no job instance of %d versions of jobs, which have left it", self._path, len(leavers.versions))
+            leaving.leave(leavers)
         if not failure:
             term.note_compacted()
             await self._note_base(engine, beside)

@@ -6,7 +6,7 @@ Its catalogue may have grown. Its log has no more than the base and what stands 
 from __future__ import annotations
 
 import logging
-from collections.abc import Sequence
+from collections.abc import Callable, Sequence
 
 from job_host.protocol.lines import query
 from job_host.service.history.coprocess import CatalogueRefused, CoProcess, CoProcessEnded
@@ -24,10 +24,14 @@ CHUNK = 2_000
 FAILED = (CoProcessEnded, CatalogueRefused, CatalogueGrew, ReplayDiffers, BaseDamaged, BaseGone, NoPrimary, *LOST)
 
 
+# The epoch up to which operations are known to be over the catalogue. A leader may get a later one meanwhile.
+Epoch = Callable[[], int]
+
+
 class GrownProcess:
     """Knows the first operations of the engine, up to `number`: at first those before a base. The table has those behind it."""
 
-    def __init__(self, process: CoProcess, store: PostgresStore, engine: Engine, epoch: int, number: int) -> None:
+    def __init__(self, process: CoProcess, store: PostgresStore, engine: Engine, epoch: Epoch, number: int) -> None:
         self._process = process
         self._store = store
         self._engine = engine
@@ -43,7 +47,7 @@ class GrownProcess:
             await self._replay(records)
 
     async def _kept(self) -> list[Record]:
-        records = await self._store.operations_after(self._number, self._epoch, CHUNK)
+        records = await self._store.operations_after(self._number, self._epoch(), CHUNK)
         return [one for one in records if one.number <= self._engine.entered]
 
     async def _replay(self, records: Sequence[Record]) -> None:
@@ -55,13 +59,13 @@ class GrownProcess:
                 raise ReplayDiffers(record, reply)
         self._number = records[-1].number
 
-    async def take_place(self, epoch: int) -> None:
+    async def take_place(self) -> None:
         """Takes the place of the engine's co-process, after all that this was handed is answered. Lines wait meanwhile.
 
-        What the engine has entered is of this epoch or of those before. A leader may have kept some under the one that began
+        What the engine has entered is of its epoch or of those before. A leader may have kept some under the one that began
         with the catalogue.
         """
-        engine, before, self._epoch = self._engine, self._engine.process, epoch
+        engine, before = self._engine, self._engine.process
         async with engine.turn:
             answered = before.ask_all([query("status_counts")])
             before.hold()
@@ -96,7 +100,7 @@ class GrownProcess:
             await self._process.close()
 
 
-async def brought_on(logs: LocalLogs, store: PostgresStore, engine: Engine, line: bytes, epoch: int) -> GrownProcess:
+async def brought_on(logs: LocalLogs, store: PostgresStore, engine: Engine, line: bytes, epoch: Epoch) -> GrownProcess:
     """A co-process with this catalogue that knows what the table has of the engine's operations. Calls go on meanwhile.
 
     Raises what `open` and `bring_on` do; and BaseGone, if the newest base has more than the engine knows.
@@ -119,13 +123,12 @@ async def renew(logs: LocalLogs, store: PostgresStore, term: PostgresTerm, catal
 
     If it can't be begun, the other one goes on.
     """
-    engine, epoch = term.engine, term.epoch
     try:
-        grown = await brought_on(logs, store, engine, catalogue, epoch)
+        grown = await brought_on(logs, store, term.engine, catalogue, lambda: term.epoch)
     except FAILED as fault:
         log.warning("batchctl goes on with all since its start: %s %s", type(fault).__name__, fault)
         return
     try:
-        await grown.take_place(epoch)
+        await grown.take_place()
     finally:
         await grown.close()

@@ -4,6 +4,7 @@ from __future__ import annotations
 
 from collections.abc import Callable, Sequence
 from contextlib import AbstractAsyncContextManager
+from typing import NamedTuple
 
 from job_host.protocol.lines import read
 from job_host.service.keepers.job_changes import JobChanges
@@ -13,6 +14,14 @@ from job_host.service.versions.book import JobBook
 def used_in(state: Sequence[bytes]) -> frozenset[str]:
     """The jobs of the catalogue that have a job instance, by the answers to STATE."""
     return frozenset(read(state[-1])["names"])
+
+
+class Leavers(NamedTuple):
+    """Versions that may leave a catalogue, which has this line without them. So many changes were known then."""
+
+    versions: frozenset[str]
+    line: bytes
+    changes: int
 
 
 class Leaving:
@@ -31,19 +40,25 @@ class Leaving:
         """No job is changed meanwhile."""
         return self._changes.resting()
 
-    def versions(self, state: Sequence[bytes]) -> frozenset[str]:
-        """Those that may leave a history with these answers to STATE."""
-        return frozenset(self._book.unneeded(used_in(state)))
+    @property
+    def line(self) -> bytes:
+        """The catalogue's line."""
+        return self._book.line
 
-    def may_leave(self, versions: frozenset[str]) -> bool:
-        """Whether no start has one of these versions."""
-        return versions <= self._book.unneeded(())
+    def leavers(self, state: Sequence[bytes]) -> Leavers | None:
+        """What may leave a history with these answers to STATE, if something may."""
+        versions = frozenset(self._book.unneeded(used_in(state)))
+        return Leavers(versions, self._book.without(versions), len(self._book.changes)) if versions else None
 
-    def line_without(self, versions: frozenset[str]) -> bytes:
-        """The catalogue's line without them."""
-        return self._book.without(versions)
+    def line_now(self, leavers: Leavers) -> bytes | None:
+        """The catalogue's line without these versions, behind which others may have come; or none if one was wanted again.
 
-    def leave(self, versions: frozenset[str]) -> None:
+        It may have been started then, also if its job was withdrawn once more.
+        """
+        is_wanted = any(change.id in leavers.versions for change in self._book.changes[leavers.changes :])
+        return None if is_wanted else self._book.without(leavers.versions)
+
+    def leave(self, leavers: Leavers) -> None:
         """They have left the catalogue of the history."""
-        self._book.leave(versions)
+        self._book.leave(leavers.versions)
         self._note()

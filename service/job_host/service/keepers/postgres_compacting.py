@@ -108,8 +108,10 @@ class PostgresCompacting:
         try:
             # Not by wait_for, which loses a cancellation that comes as the base fails: both do if the server is gone.
             async with asyncio.timeout(MOST_SECONDS):
-                plan = None if leaving is None else await leaving.plan()
-                base = await making.make(engine, until if plan is None else plan.until, None if plan is None else plan.lean)
+                if leaving is None:
+                    base = await making.make(engine, until, engine.process.catalogue)
+                else:
+                    base = await making.make(engine, *await leaving.plan())
         except asyncio.TimeoutError:
             return f"it took more than {MOST_SECONDS:.0f} seconds, or the server didn't answer"
         except Exception as fault:

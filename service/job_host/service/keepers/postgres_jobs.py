@@ -11,7 +11,7 @@ from job_host.catalogue.jobs import ForWorkers, JobFile, JobsRefused, ServedJobs
 from job_host.catalogue.versions import read_for_workers
 from job_host.service.history.engine import Engine
 from job_host.service.keepers.folder_changes import known_files
-from job_host.service.keepers.grown_process import FAILED, GrownProcess, brought_on
+from job_host.service.keepers.grown_process import FAILED, Epoch, GrownProcess, brought_on
 from job_host.service.keepers.job_changes import JobChanges, check_folder, kept_change
 from job_host.service.keepers.local_logs import LocalLogs
 from job_host.service.keepers.postgres_term import PostgresTerm
@@ -68,10 +68,10 @@ class PostgresJobs:
 
     async def _grow(self, store: PostgresStore, term: PostgresTerm, growth: Growth) -> None:
         """Keeps a catalogue that grows."""
-        grown = await self.grown(store, term.engine, growth.catalogue or b"", term.epoch)
+        grown = await self.grown(store, term.engine, growth.catalogue or b"", lambda: term.epoch)
         try:
             await term.keep_growth(growth)
-            await grown.take_place(term.epoch)
+            await grown.take_place()
         except BaseException as fault:
             # The table may have the catalogue that the term's co-process hasn't.
             term.fail(unavailable("CommitFailed", f"a change of jobs may have been kept: {type(fault).__name__} {fault}"))
@@ -81,13 +81,13 @@ class PostgresJobs:
     async def follow(self, store: PostgresStore, engine: Engine, line: bytes, epoch: int) -> None:
         """Takes over a catalogue that a leader has kept under this epoch."""
         async with self._turn:
-            grown = await self.grown(store, engine, line, epoch)
+            grown = await self.grown(store, engine, line, lambda: epoch)
             try:
-                await grown.take_place(epoch)
+                await grown.take_place()
             finally:
                 await grown.close()
 
-    async def grown(self, store: PostgresStore, engine: Engine, line: bytes, epoch: int) -> GrownProcess:
+    async def grown(self, store: PostgresStore, engine: Engine, line: bytes, epoch: Epoch) -> GrownProcess:
         """A co-process with a catalogue that has grown, which knows what the table has."""
         try:
             return await brought_on(self._logs, store, engine, line, epoch)

@@ -8,15 +8,16 @@ from typing import NamedTuple
 
 from job_host.service.history.engine import STATE
 from job_host.service.keepers.base_making import LeanPlan, NotCompacted
-from job_host.service.keepers.leaving import Leaving
+from job_host.service.keepers.leaving import Leavers, Leaving
 from job_host.service.keepers.postgres_term import PostgresTerm
 from job_host.service.stores.postgres_bases import Leaner, Made, PostgresBases
 
 
 class Planned(NamedTuple):
-    """A base of the first operations, so many, all of which are kept; and the catalogue that jobs leave by it, if some do."""
+    """A base of the first operations, so many, all of which are kept, over a catalogue; and how jobs leave it, if some do."""
 
     until: int
+    catalogue: bytes
     lean: LeanPlan | None
 
 
@@ -33,18 +34,18 @@ class PostgresLeaving:
         engine = self._term.engine
         async with self._leaving.resting(), engine.turn:
             state = await engine.ask(STATE)
-            versions = self._leaving.versions(state.replies)
-            line = self._leaving.line_without(versions)
+            leavers, catalogue = self._leaving.leavers(state.replies), self._leaving.line
         await self._term.until_committed(state.seen)
-        return Planned(state.seen, LeanPlan(line, partial(self._put, versions)) if versions else None)
+        lean = None if leavers is None else LeanPlan(leavers.line, partial(self._put, leavers))
+        return Planned(state.seen, catalogue, lean)
 
-    async def _put(self, versions: frozenset[str], bases: PostgresBases, made: Made) -> bool:
+    async def _put(self, leavers: Leavers, bases: PostgresBases, made: Made) -> bool:
         """Keeps a base whose catalogue lacks these versions. Raises NotCompacted if one of them has come back meanwhile."""
         async with self._leaving.resting(), self._turn:
-            if not self._leaving.may_leave(versions):
+            line = self._leaving.line_now(leavers)
+            if line is None:
                 raise NotCompacted("a job that was to leave the catalogue was brought back meanwhile")
-            line = self._leaving.line_without(versions)
             is_kept = await bases.put(made, Leaner(line, self._term.growing))
             if is_kept:
-                self._leaving.leave(versions)
+                self._leaving.leave(leavers)
         return is_kept
