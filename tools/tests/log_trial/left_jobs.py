@@ -96,7 +96,8 @@ def check_starts(program: Program, log: Path) -> None:
     found = compacted(program, log, catalogue_of(JOB, ANOTHER) + b"\n" + lines_of([start, claim]))
     started, claimed = map(json.loads, found.output.splitlines())
     want("a start of the other job", started, {"execution": 3})
-    want("its first step", (claimed["work"], claimed["element"], claimed["kind"]), (3, "t", "chunk"))
+    work = claimed["work"]
+    want("its first step", (work["work"], work["element"], work["kind"]), (3, "t", "chunk"))
 
 
 def check_kept(program: Program, what: str, given: bytes, job: int, log: Path, *, first: int) -> None:
