@@ -101,7 +101,7 @@ def test_a_shell_that_ends_is_told_with_the_command_that_ended_it() -> None:
 
 
 def test_a_shell_that_hangs_is_ended() -> None:
-    with mock.patch.object(pasting, "MOST_SECONDS", 0.2):
+    with mock.patch.object(pasting, "MOST_SECONDS", 2.0):
         assert [number for number, _, _ in pasted(shell("true", "sleep 60"))] == [3]
 
 
