@@ -5,6 +5,7 @@ from __future__ import annotations
 import asyncio
 from collections.abc import Sequence
 from contextlib import suppress
+from types import SimpleNamespace
 from typing import Any, cast
 
 import pytest
@@ -81,7 +82,7 @@ class Compactor(PostgresCompacting):
     async def can(self) -> bool:
         return True
 
-    async def make(self, engine: Engine, until: int) -> None:
+    async def make(self, engine: Engine, until: int, catalogue: bytes) -> None:
         self.begun.set()
         await self.failing.wait()
         raise ConnectionError("the server is gone")
@@ -91,9 +92,10 @@ class Compactor(PostgresCompacting):
 async def test_compactions_end_with_a_term_though_a_base_fails_meanwhile(turns: int, monkeypatch: pytest.MonkeyPatch) -> None:
     """The server is gone: a base fails, and so many turns of the loop later its term ends."""
     compactor = Compactor(monkeypatch)
-    term = Rounds(Engine(cast(Any, None)), Sessions({}, 10), TermSettings(10), Observers())
+    process = SimpleNamespace(catalogue=b"")
+    term = Rounds(Engine(cast(Any, process)), Sessions({}, 10), TermSettings(10), Observers())
     running = asyncio.create_task(compactor.run(cast(Any, compactor), term, cast(Any, None)))
-    await compactor.begun.wait()
+    await asyncio.wait_for(compactor.begun.wait(), 10)
     compactor.failing.set()
     for _ in range(turns):
         await asyncio.sleep(0)
