@@ -150,7 +150,7 @@ async def test_two_services_never_have_one_log(embedded: Make, monkeypatch: pyte
 
 
 async def test_calls_under_way_are_answered_when_batchctl_dies(embedded: Make) -> None:
-    """Replies wait for a commit, others for the next one, and a claim waits for work."""
+    """A refusal waits for its key to be kept, replies wait for the next commit, and a claim waits for work."""
     async with running(embedded()) as instance:
         caller, keeper = Caller(instance.url), instance.service.keeper
         term, engine = keeper.term, keeper.engine
@@ -166,7 +166,7 @@ async def test_calls_under_way_are_answered_when_batchctl_dies(embedded: Make) -
             note(*words)
 
         store.note = held
-        first = asyncio.create_task(caller.start(key="first"))
+        first = asyncio.create_task(caller.start("none", key="first"))
         await asyncio.to_thread(is_held.wait, 10.0)
         others = [asyncio.create_task(caller.start(key=f"other-{number}")) for number in range(15)]
         await asyncio.sleep(0.2)
@@ -175,7 +175,8 @@ async def test_calls_under_way_are_answered_when_batchctl_dies(embedded: Make) -
         answers = await asyncio.wait_for(asyncio.gather(claim, first, *others), 20.0)
         assert {answer.status for answer in answers} == {503}
         await instance.until_role("leader")
-        assert [(await caller.start(key=key)).status for key in ("first", "other-3")] == [201, 201]
+        again = [await caller.start("none", key="first"), await caller.start(key="other-3")]
+        assert [answer.status for answer in again] == [404, 201]
 
 
 async def test_the_end_of_batchctl_is_logged(embedded: Make, caplog: pytest.LogCaptureFixture) -> None:

@@ -114,8 +114,8 @@ def last_lines(path: Path, count: int = 1) -> list[bytes]:
     return [record.line for record in log_file.records(path)][-count:]
 
 
-async def lose_answer(instance: Instance, make: Callable[[Caller], Any]) -> None:
-    """Makes a call whose reply is heard, and can't be kept beside its key: the service begins again, and leads."""
+async def lose_note(instance: Instance, make: Callable[[Caller], Any]) -> int:
+    """Makes a call whose reply can't be kept beside its key: the service begins again, and leads. Returns the status."""
     term, epoch = instance.service.keeper.term, instance.service.keeper.epoch
     assert isinstance(term, EmbeddedTerm)
     store: Any = term._beside._store
@@ -124,19 +124,20 @@ async def lose_answer(instance: Instance, make: Callable[[Caller], Any]) -> None
         raise sqlite3.OperationalError("the disk is full")
 
     store.note = fail
-    assert (await make(Caller(instance.url, "one"))).status == 503
+    status: int = (await make(Caller(instance.url, "one"))).status
     await until_epoch(instance, epoch + 1)
+    return status
 
 
 async def test_a_key_whose_reply_was_heard_and_not_kept(embedded: Make, entered: list[Any]) -> None:
-    """The engine has the reply. Nothing is entered again, and the key gives it."""
+    """The log has what was accepted, which is answered. Nothing is entered again, and the key gives the reply."""
     async with running(embedded()) as instance:
         caller = Caller(instance.url, "one")
         await make_some(instance.url)
         entered.clear()
-        await lose_answer(instance, lambda one: one.claim(key="a"))
-        await lose_answer(instance, lambda one: one.start("nightly", key="b"))
-        await lose_answer(instance, lambda one: one.change(9, "stop", key="c"))
+        claimed = await lose_note(instance, lambda one: one.claim(key="a"))
+        started = await lose_note(instance, lambda one: one.start("nightly", key="b"))
+        assert (claimed, started, await lose_note(instance, lambda one: one.change(9, "stop", key="c"))) == (200, 201, 503)
         again = [await caller.claim(key="a"), await caller.start("nightly", key="b")]
         assert ([answer.operations for answer in again], len(entered)) == ([11, 12], 2)
         assert (again[0].told["work"]["work"], again[0].told["jobName"], again[1].told["executionId"]) == (4, "wide", 5)

@@ -93,7 +93,7 @@ async def test_a_crash_between_log_and_key_leaves_one_start(embedded: Make) -> N
             raise sqlite3.OperationalError("the disk is full")
 
         store.note = fail
-        assert (await caller.start_once("a")).status == 503
+        assert (await caller.start_once("a")).status == 201
         await instance.until_role("starting")
         await instance.until_role("leader")
         again = await Caller(instance.url, "other").start_once("a")

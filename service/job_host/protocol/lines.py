@@ -15,10 +15,15 @@ def compact(members: Members) -> bytes:
     return json.dumps(members, ensure_ascii=True, allow_nan=False, separators=(",", ":")).encode("ascii")
 
 
-def command(do: str, session: int, moment: int, members: Members) -> bytes:
-    """A command of a session at a moment. Its own members can't replace those three."""
+def command_members(do: str, session: int, moment: int, members: Members) -> dict[str, Any]:
+    """The members of a command of a session at a moment. Its own members can't replace those three."""
     head = {"do": do, "by": session, "at": moment}
-    return compact({**head, **members, **head})
+    return {**head, **members, **head}
+
+
+def command(do: str, session: int, moment: int, members: Members) -> bytes:
+    """A command of a session at a moment, as a line."""
+    return compact(command_members(do, session, moment, members))
 
 
 def query(ask: str, **members: Any) -> bytes:

@@ -37,21 +37,24 @@ class CoProcess(asyncio.SubprocessProtocol):
     """Writes lines and hands each reply to its hearer, in the order of the lines.
 
     A hearer is called in the event loop's thread. It is given None if the co-process ends before its reply. While another one
-    takes its place, lines wait.
+    takes its place, lines wait. The lines of one turn of the event loop are written at once: so they are read together, and
+    batchctl's log waits for the disk once for all of them.
     """
 
     def __init__(self) -> None:
+        self._loop = asyncio.get_running_loop()
         self._hearers: deque[Hearer] = deque()
         self._rest = b""
+        self._unwritten: list[bytes] = []
         self._transport: asyncio.SubprocessTransport | None = None
         self._stdin: asyncio.WriteTransport | None = None
         self._errors = b""
         self._heard_at = 0.0
         self.catalogue = b""
         self.has_ended = False
-        self.ended: asyncio.Future[int | None] = asyncio.get_running_loop().create_future()
+        self.ended: asyncio.Future[int | None] = self._loop.create_future()
         # It has ended, or another one has taken its place.
-        self.gone: asyncio.Future[None] = asyncio.get_running_loop().create_future()
+        self.gone: asyncio.Future[None] = self._loop.create_future()
         self._waiting: list[tuple[Sequence[bytes], Hearer]] | None = None
 
     @classmethod
@@ -151,7 +154,14 @@ class CoProcess(asyncio.SubprocessProtocol):
             log.error("batchctl ended with status %s: %s", self.status, self.errors.rpartition("\n")[2] or "it wrote no reason")
 
     def _write(self, data: bytes) -> None:
-        if self._stdin is not None and not self._stdin.is_closing():
+        """Writes it at the end of this turn of the event loop, with what comes until then."""
+        if not self._unwritten:
+            self._loop.call_soon(self._flush)
+        self._unwritten.append(data)
+
+    def _flush(self) -> None:
+        data, self._unwritten = b"".join(self._unwritten), []
+        if data and self._stdin is not None and not self._stdin.is_closing():
             self._stdin.write(data)
 
     def _begin_waiting(self) -> None:
@@ -215,6 +225,7 @@ class CoProcess(asyncio.SubprocessProtocol):
     async def finish(self) -> int | None:
         """Closes its input, and waits for its end."""
         if self._stdin is not None:
+            self._flush()
             self._stdin.close()
         return await self.wait()
 

@@ -94,6 +94,8 @@ class Engine:
         self.actions = Actions(self.executions.numbers)
         self.jobs = MadeJobs(self.executions.numbers)
         self.did: list[Did] = []
+        # The last reply that told what its operation is on.
+        self.told: dict[str, Any] = {}
         self.open = OpenIndex(self, self.executions, self.busy, self.may_restart, names)
         self.recent: deque[Record] = deque()
         self.base: KnownBase | None = None
@@ -182,14 +184,14 @@ class Engine:
         """The sessions that hold work items."""
         return {held.session for held in self.held.values()}
 
-    def command(self, line: bytes, heard: Heard, tag: bytes = b"") -> None:
-        """Hands on a command, with a tag if it has one. Whoever calls it holds `turn`."""
+    def command(self, line: bytes, heard: Heard, tag: bytes = b"", members: dict[str, Any] | None = None) -> None:
+        """Hands on a command, with a tag if it has one. Whoever calls it holds `turn`. `members` are those of its line."""
 
         def hear(reply: bytes | None) -> None:
             if reply is None:
                 heard(None, None, self.entered)
             elif is_accepted(reply):
-                self.enter([line], [reply])
+                self.enter([line], [reply], None if members is None else [members])
                 self.recent.append(Record(self.entered, line, reply, self.did[-1]))
                 heard(reply, self.entered, self.entered)
             else:
@@ -197,14 +199,19 @@ class Engine:
 
         self.process.send(tag + TAB + line if tag else line, hear)
 
-    def enter(self, lines: Sequence[bytes], replies: Sequence[bytes]) -> None:
-        """Notes what operations are on: work items, and job executions. Many at once cost less than one by one."""
+    def enter(self, lines: Sequence[bytes], replies: Sequence[bytes], members: Sequence[dict[str, Any]] | None = None) -> None:
+        """Notes what operations are on: work items, and job executions. Many at once cost less than one by one.
+
+        Whoever wrote the lines may give their members.
+        """
         self.is_whole = False
         self.digest.add(lines)
-        operations = json.loads(b"[%b]" % b",".join(lines))
+        operations = json.loads(b"[%b]" % b",".join(lines)) if members is None else members
         telling = [reply for told, reply in zip(operations, replies, strict=True) if told["do"] in TELLING]
-        answers = iter(json.loads(b"[%b]" % b",".join(telling)))
-        self.did = [self._enter(told, answers) for told in operations]
+        answers = json.loads(b"[%b]" % b",".join(telling)) if telling else []
+        self.told = answers[-1] if answers else {}
+        each = iter(answers)
+        self.did = [self._enter(told, each) for told in operations]
         self.last_moment = max(self.last_moment, *(told["at"] for told in operations))
         self.last_session = max(self.last_session, *(told["by"] for told in operations))
         self.is_whole = True
@@ -360,17 +367,33 @@ class Engine:
     def ask(self, queries: Sequence[bytes]) -> asyncio.Future[Answers]:
         """Asks queries of one state. There is at least one."""
         answered: asyncio.Future[Answers] = asyncio.get_running_loop().create_future()
-        replies: list[bytes] = []
 
-        def hear(reply: bytes | None) -> None:
+        def hear(answers: Answers | None) -> None:
             if answered.done():
                 return
-            if reply is None:
+            if answers is None:
                 answered.set_exception(CoProcessEnded("batchctl has ended"))
+            else:
+                answered.set_result(answers)
+
+        self.ask_for(queries, hear)
+        return answered
+
+    def ask_for(self, queries: Sequence[bytes], heard: Callable[[Answers | None], None]) -> None:
+        """Asks queries of one state, and tells their answers as the last one is heard: none if batchctl has ended."""
+        replies: list[bytes] = []
+        has_ended = False
+
+        def hear(reply: bytes | None) -> None:
+            nonlocal has_ended
+            if has_ended:
+                return
+            if reply is None:
+                has_ended = True
+                heard(None)
                 return
             replies.append(reply)
             if len(replies) == len(queries):
-                answered.set_result(Answers(replies, self.entered))
+                heard(Answers(replies, self.entered))
 
         self.process.send_all(queries, hear)
-        return answered

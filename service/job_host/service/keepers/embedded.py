@@ -278,6 +278,7 @@ class EmbeddedKeeper(Keeper):
         log.warning("serves after %d operations", engine.entered)
         tasks = [
             term.commit_rounds(),
+            term.know_keys(),
             term.desk.serve(),
             term.desk.watch(),
             self.leases.watch(term),
@@ -414,6 +415,8 @@ class EmbeddedKeeper(Keeper):
     async def audit(self, wanted: AuditWanted) -> list[Audited]:
         if self._beside is None:
             raise unavailable("Starting", "the history isn't here yet")
+        # Its connection is another one, which sees what is noted by now.
+        await self._beside.do(lambda store: None)
         try:
             return await asyncio.to_thread(wanted_in, self._settings.data / STORE_NAME, wanted)
         except sqlite3.Error as fault:

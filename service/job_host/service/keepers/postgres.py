@@ -265,7 +265,8 @@ class PostgresKeeper(Keeper):
         self._bring = None
         if self._jobs is None:
             await self._open_doors(term, begun)
-        rounds = [term.commit_rounds(), term.desk.serve(), term.desk.watch(), self.leases.watch(term), self._prune(store, term)]
+        rounds = [term.commit_rounds(), term.know_keys(), term.desk.serve(), term.desk.watch(), self.leases.watch(term)]
+        rounds.append(self._prune(store, term))
         rounds.append(self._compacting.run(self._making, term, partial(self._renew, store, term), partial(self._leaving, term)))
         if self._jobs is not None:
             rounds.append(self._lead_jobs(store, term, begun))

@@ -13,6 +13,7 @@ from job_host.service.problems import Problem, unavailable
 from job_host.service.stores.postgres import PostgresStore
 from job_host.service.stores.postgres_connection import LOST
 from job_host.service.terms.calls import Item, Kept, KeptRequest
+from job_host.service.terms.known_keys import KeptKey
 from job_host.service.terms.term import Term
 from job_host.service.versions.changes import Growth
 
@@ -42,6 +43,12 @@ class PostgresTerm(Term):
     async def find(self, session: int, key: str) -> KeptRequest | None:
         try:
             return await self._store.request(session, key)
+        except LOST as fault:
+            raise self._lost(fault) from fault
+
+    async def keys_behind(self, last: KeptKey | None, most: int) -> Sequence[KeptKey]:
+        try:
+            return await self._store.keys_behind(last, most)
         except LOST as fault:
             raise self._lost(fault) from fault
 

@@ -15,9 +15,9 @@ from job_host.catalogue.jobs import JobFile, SettingsFile
 from job_host.protocol.lines import compact, digest
 from job_host.service.history.audited import Audited, AuditWanted, Origin
 from job_host.service.history.engine import Record
-from job_host.service.stores.postgres_audit import audit_column, origins_of, wanted_of
+from job_host.service.stores.postgres_audit import audit_columns, origins_of, wanted_of
 from job_host.service.stores.postgres_bases import NEWEST, KeptBase
-from job_host.service.stores.postgres_connection import NotDurable, closed_is_lost, connect_primary, or_drop
+from job_host.service.stores.postgres_connection import COMMITTING, NotDurable, closed_is_lost, connect_primary, or_drop
 from job_host.service.stores.postgres_migrations import are_current, migrate
 from job_host.service.stores.postgres_schema import (
     ADD_CHANGE,
@@ -49,8 +49,12 @@ from job_host.service.terms.calls import (
     LogSize,
     WorkLog,
 )
+from job_host.service.terms.known_keys import KeptKey
 from job_host.service.terms.sessions import Silent
 from job_host.service.versions.changes import Change, Growth, change_in
+
+
+BEFORE_ALL_KEYS = KeptKey(0.0, -1, "")
 
 
 @dataclass(frozen=True)
@@ -80,7 +84,7 @@ class PostgresStore:
     @classmethod
     async def open(cls, dsns: Sequence[str], timeout: float) -> PostgresStore:
         """Connects, and brings the tables to this version. Raises NoPrimary, NotDurable, LaterVersion or what LOST has."""
-        commits = await connect_primary(dsns, None)
+        commits = await connect_primary(dsns, None, COMMITTING)
         try:
             await or_drop(commits, timeout, cls._check_durable(commits))
             if not await or_drop(commits, timeout, are_current(commits)):
@@ -213,6 +217,12 @@ class PostgresStore:
         kept = Kept(rows[0]["reply"].encode(), answers, rows[0]["seen"])
         return KeptRequest(bytes(rows[0]["fingerprint"]), kept)
 
+    async def keys_behind(self, last: KeptKey | None, most: int) -> list[KeptKey]:
+        """The next request keys, so many at most, in their order."""
+        statement = "select session, key from job_host_request where (session, key) > ($1, $2) order by session, key limit $3"
+        _, session, key = last or BEFORE_ALL_KEYS
+        return [KeptKey(0.0, *row) for row in await self._fetch(statement, session, key, most)]
+
     async def audit(self, wanted: AuditWanted) -> list[Audited]:
         """The operations that are wanted, the newest first."""
         return await wanted_of(self._fetch, wanted)
@@ -327,7 +337,7 @@ def without_nul(text: str) -> str:
 
 
 def _columns(items: Sequence[Item], clients: dict[str, int]) -> list[Any]:
-    """The columns of a round's rows, in the order of its statement; a digest of the first operation; and who made each."""
+    """The columns of a round's rows, in the order of its statement; a digest of the first operation; and who made each one."""
     entered = [item for item in items if item.number is not None]
     keyed = [item for item in items if item.is_keyed]
     logs = list({item.log.work: item.log for item in items if item.log is not None}.values())
@@ -350,5 +360,5 @@ def _columns(items: Sequence[Item], clients: dict[str, int]) -> list[Any]:
         [log.partition for log in logs],
         [without_nul(log.text) for log in logs],
         next((digest(item.line) for item in entered if item.number == 1), None),
-        audit_column(entered),
+        *audit_columns(entered),
     ]

@@ -2,12 +2,11 @@
 
 from __future__ import annotations
 
-import json
 from collections.abc import Awaitable, Callable, Sequence
 from dataclasses import asdict
 from typing import Any
 
-from job_host.service.history.audited import COLUMNS, Audited, AuditWanted, Origin
+from job_host.service.history.audited import COLUMNS, Audited, AuditWanted, Did, Origin
 from job_host.service.terms.calls import Item
 
 # The fifth version. Rows of an earlier version, and those that its leader adds meanwhile, have no name.
@@ -78,8 +77,8 @@ async def origins_of(fetch: Fetch, numbers: Sequence[int]) -> dict[int, Origin]:
     return {row[0]: Origin(*row[1:]) for row in await fetch(ORIGINS, list(numbers))}
 
 
-def audit_column(entered: Sequence[Item]) -> str:
-    """What a round's rows of operations have of an audit, as one text of JSON. No text of PostgreSQL has a NUL."""
+def audit_columns(entered: Sequence[Item]) -> list[list[Any]]:
+    """The columns of an audit that a round's rows of operations have. No text of PostgreSQL has a NUL."""
     told = [one for item in entered if (one := item.audited()) is not None]
-    rows = [{"number": one.number, **one.did._asdict(), **one.origin._asdict()} for one in told]
-    return json.dumps([{**row, "job": str(row["job"]).replace("\0", "\ufffd")} for row in rows])
+    rows = [(*one.did._replace(job=one.did.job.replace("\0", "\ufffd")), *one.origin) for one in told]
+    return [[row[place] for row in rows] for place in range(len(Did._fields) + len(Origin._fields))]

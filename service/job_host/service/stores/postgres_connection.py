@@ -3,7 +3,7 @@
 from __future__ import annotations
 
 import asyncio
-from collections.abc import Coroutine, Iterator, Sequence
+from collections.abc import Coroutine, Iterator, Mapping, Sequence
 from contextlib import contextmanager
 from typing import Any
 
@@ -15,6 +15,8 @@ LOST = (OSError, asyncio.TimeoutError, asyncpg.PostgresError, asyncpg.InterfaceE
 CONNECT_SECONDS = 3.0
 # Without a just-in-time compiler: it takes seconds for statements that take milliseconds.
 SESSION = {"application_name": "jobhost", "jit": "off"}
+# The statement of a round is planned once: to plan it for each round takes as long as to run it.
+COMMITTING = {**SESSION, "plan_cache_mode": "force_generic_plan"}
 
 
 class NoPrimary(Exception):
@@ -25,12 +27,15 @@ class NotDurable(Exception):
     """The server acknowledges a commit before it is on its disk."""
 
 
-async def connect_primary(dsns: Sequence[str], timeout: float | None) -> asyncpg.Connection:
+async def connect_primary(
+    dsns: Sequence[str], timeout: float | None, session: Mapping[str, str] = SESSION
+) -> asyncpg.Connection:
     """A connection to the first server that takes writes. One that doesn't answer is left after some seconds."""
     told = []
     for place, dsn in enumerate(dsns):
         try:
-            connection = await asyncpg.connect(dsn, timeout=CONNECT_SECONDS, command_timeout=timeout, server_settings=SESSION)
+            given = {"timeout": CONNECT_SECONDS, "command_timeout": timeout, "server_settings": dict(session)}
+            connection = await asyncpg.connect(dsn, **given)
             if await _takes_writes(connection):
                 return connection
             told.append(f"server {place} is a standby")

@@ -129,12 +129,10 @@ with fence as (
     where epoch = $1 returning epoch
 ), operation as (
     insert into job_host_operation (
-        number, epoch, line, reply, request_key, name, session, moment, execution, job, of, client, token, address)
-    select o.number, $1, o.line, o.reply, o.request_key, a.name, a.session, a.moment, a.execution, a.job, a.of, a.client,
-        a.token, a.address
-    from unnest($2::bigint[], $3::text[], $4::text[], $5::text[]) as o(number, line, reply, request_key)
-    left join json_to_recordset($20::json) as a(number bigint, name text, session bigint, moment bigint, execution bigint,
-        job text, of bigint, client text, token text, address text) using (number)
+        epoch, number, line, reply, request_key, name, session, moment, execution, job, of, client, token, address)
+    select $1, o.*
+    from unnest($2::bigint[], $3::text[], $4::text[], $5::text[], $20::text[], $21::bigint[], $22::bigint[], $23::bigint[],
+        $24::text[], $25::bigint[], $26::text[], $27::text[], $28::text[]) as o
     where exists (select from fence)
 ), client as (
     insert into job_host_client (name, session)

@@ -24,6 +24,7 @@ from job_host.service.history.audited import Audited
 from job_host.service.stores.history import History, Rest, history_in
 from job_host.service.stores.sqlite_audit import AuditTable
 from job_host.service.stores.sqlite_notifications import NotificationTable
+from job_host.service.stores.sqlite_rows import insert_all
 from job_host.service.stores.sqlite_schema import migrate, refuse_later
 from job_host.service.terms.calls import (
     EVERYBODY_SESSION,
@@ -34,17 +35,23 @@ from job_host.service.terms.calls import (
     LogSize,
     WorkLog,
 )
+from job_host.service.terms.known_keys import KeptKey
 from job_host.service.terms.sessions import Silent
 
 REQUEST = """
-insert or replace into request (session, key, fingerprint, moment, line, reply, answers, seen, kept_at)
-values (?, ?, ?, ?, ?, ?, ?, ?, ?)
+insert or replace into request (session, key, fingerprint, moment, line, reply, answers, seen, kept_at) values {}
 """
+# By the index of the moments, which has the keys, too.
+KEYS = """
+select kept_at, session, key from request where (kept_at, session, key) > (?, ?, ?) order by kept_at, session, key limit ?
+"""
+BEFORE_ALL_KEYS = KeptKey(float("-inf"), 0, "")
+WORK_LOG = "insert or replace into work_log values {}"
 NOTED = """
 insert into noted values (1, ?, ?) on conflict (one) do update set operations = excluded.operations, line = excluded.line
 """
 # A name that was forgotten may still stand here, if it was heard again at once.
-CLIENT = "insert into client values (?, ?) on conflict (name) do update set session = excluded.session"
+CLIENT = "insert into client values {} on conflict (name) do update set session = excluded.session"
 # A client that was never noted is taken as heard now.
 HEARD = """
 insert into client_heard select session, :now from client
@@ -212,7 +219,7 @@ class SqliteStore:
         """Names clients that nobody knows any more: no client can have such a name."""
         with self._connection:
             self._connection.execute("begin")
-            self._connection.executemany(CLIENT, [(f"?{one}", one) for one in sessions])
+            insert_all(self._connection, CLIENT, [(f"?{one}", one) for one in sessions])
 
     def note_heard(self, sessions: Sequence[int]) -> None:
         """Keeps that these clients were heard until now."""
@@ -243,11 +250,11 @@ class SqliteStore:
         with self._syncing(notes.is_alone), self._connection:
             self._connection.execute("begin")
             self._note_first(notes.first)
-            self._connection.executemany(CLIENT, notes.clients.items())
+            insert_all(self._connection, CLIENT, list(notes.clients.items()))
             self.audit.add(notes.operations)
-            self._connection.executemany(REQUEST, [request.row() for request in notes.requests])
+            insert_all(self._connection, REQUEST, [request.row() for request in notes.requests])
             rows = [(log.work, log.execution, log.element, log.partition, log.text) for log in notes.logs]
-            self._connection.executemany("insert or replace into work_log values (?, ?, ?, ?, ?)", rows)
+            insert_all(self._connection, WORK_LOG, rows)
             if notes.last is not None:
                 self._connection.execute(NOTED, (notes.last.operations, notes.last.line))
 
@@ -316,6 +323,11 @@ class SqliteStore:
             yield
         finally:
             self._connection.execute("pragma synchronous = full")
+
+    def keys_behind(self, last: KeptKey | None, most: int) -> list[KeptKey]:
+        """The next request keys, so many at most, in their order."""
+        words = (*(last or BEFORE_ALL_KEYS), most)
+        return [KeptKey(*row) for row in self._connection.execute(KEYS, words)]
 
     def forget_log(self) -> None:
         """Forgets what was noted of a log, and the replies to refused calls. Logs of work items stay."""

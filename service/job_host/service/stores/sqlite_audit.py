@@ -13,9 +13,11 @@ from pathlib import Path
 from typing import Any
 
 from job_host.service.history.audited import COLUMNS, Audited, AuditWanted, Origin
+from job_host.service.stores.sqlite_rows import insert_all
 
+ADD = f"insert or replace into operation ({COLUMNS}) values {{}}"
 # A replay doesn't know the client of a session that its line doesn't name.
-ADD = f"""
+ADD_OF_SESSION = f"""
 insert or replace into operation ({COLUMNS})
 select :number, :name, :session, :moment, :execution, :job, :of, c.name,
     coalesce(:token, case when instr(c.name, '/') > 0 then substr(c.name, 1, instr(c.name, '/') - 1) end), :address
@@ -64,7 +66,10 @@ class AuditTable:
 
     def add(self, operations: Sequence[Audited]) -> None:
         """Adds operations, in the transaction that is open, behind their clients."""
-        self._connection.executemany(ADD, [words_of(one) for one in operations])
+        named = [(one.number, *one.did, *one.origin) for one in operations if one.origin.client is not None]
+        insert_all(self._connection, ADD, named)
+        nameless = [words_of(one) for one in operations if one.origin.client is None]
+        self._connection.executemany(ADD_OF_SESSION, nameless)
 
     def drop_based(self, most: int) -> bool:
         """Drops some rows of operations before the newest base, and returns whether there may be more."""

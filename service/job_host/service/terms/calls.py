@@ -129,6 +129,8 @@ class Item:
     session: int
     line: bytes = b""
     moment: int = 0
+    # Those of the line.
+    members: dict[str, Any] = field(default_factory=dict)
     # What the log keeps ahead of the line.
     tag: bytes = b""
     reply: bytes = b""
@@ -137,6 +139,8 @@ class Item:
     seen: int = 0
     answers: tuple[bytes, ...] = ()
     is_ready: bool = False
+    # The job execution whose answers were asked for with the line, before its reply was heard.
+    asked_ahead: int | None = None
     log: WorkLog | None = None
     growth: Growth | None = None
     heard: asyncio.Future[bytes] = field(default_factory=lambda: asyncio.get_running_loop().create_future())

@@ -9,14 +9,17 @@ from collections import deque
 from collections.abc import Awaitable, Callable, Sequence
 from contextlib import suppress
 from dataclasses import dataclass, replace
+from functools import partial
 
-from job_host.protocol.lines import command, is_accepted, query, read, refusal_of
+from job_host.protocol.lines import command_members, compact, is_accepted, query, read, refusal_of
+from job_host.service.history.actions import MAKING
 from job_host.service.history.answers import Answers
 from job_host.service.history.engine import Engine
 from job_host.service.problems import Problem, unavailable
 from job_host.service.terms.calls import EVERYBODY_SESSION, REPLY_NOT_KEPT, SERVICE, Call, Item, Kept, KeptRequest, WorkLog
 from job_host.service.terms.claims import ClaimDesk, ClaimWithdrawn
-from job_host.service.terms.follow_ups import follow_ups
+from job_host.service.terms.follow_ups import Unchanging, count_of, execution_of, unchanging_of
+from job_host.service.terms.known_keys import KeptKey, KnownKeys
 from job_host.service.terms.moments import Moments
 from job_host.service.terms.sessions import Sessions
 from job_host.service.terms.workers import Workers
@@ -56,6 +59,10 @@ class Term(ABC):
         self._wake = asyncio.Event()
         self._under_way: dict[tuple[str | None, str], tuple[bytes, asyncio.Task[Kept]]] = {}
         self._readers: list[tuple[int, asyncio.Future[None]]] = []
+        self.keys = KnownKeys()
+        self._unchanging = Unchanging()
+        # How many starts and restarts have no reply yet.
+        self._making = 0
         # What is kept of a client's request key beside the replies: a change of a job.
         self.find_change: Callable[[str, str], KeptRequest | None] = lambda client, key: None
         engine.may_give_work = self.desk.wake
@@ -63,6 +70,15 @@ class Term(ABC):
     @abstractmethod
     async def find(self, session: int, key: str) -> KeptRequest | None:
         """What is kept of a request key."""
+
+    @abstractmethod
+    async def keys_behind(self, last: KeptKey | None, most: int) -> Sequence[KeptKey]:
+        """The next request keys of the store, so many at most, in the order of KeptKey."""
+
+    async def know_keys(self) -> None:
+        """Reads which request keys the store has, and goes on without end."""
+        await self.keys.read(self.keys_behind)
+        await asyncio.Event().wait()
 
     @abstractmethod
     async def session_of(self, name: str) -> int | None:
@@ -108,7 +124,8 @@ class Term(ABC):
         with self.sessions.hearing(call.client):
             await self.meet(call.client)
             session = EVERYBODY_SESSION if call.is_once else self.sessions.known(call.client)
-            found = None if session is None else await self.find(session, key)
+            may_be_found = session is not None and self.keys.may_have(session, key)
+            found = await self.find(session, key) if session is not None and may_be_found else None
             if found is not None and call.is_once and await self._is_purged(found.kept):
                 await self.forget(key, found.kept)
                 found = None
@@ -153,7 +170,7 @@ class Term(ABC):
             raise self.failure
         session = self.sessions.number(call.client)
         item = Item(call, session, moment=self.moments.last, reply=reply, seen=self.engine.entered)
-        self._queue.append(item)
+        self._queue_up(item)
         self._make_ready(item)
         return await item.done
 
@@ -193,11 +210,12 @@ class Term(ABC):
         """The line of a call with its moment. Lines are handed over in the order of their moments."""
         session = self.sessions.number(call.client)
         moment = self.moments.next()
+        members = command_members(call.do, session, moment, call.members)
         try:
-            line = command(call.do, session, moment, call.members)
+            line = compact(members)
         except ValueError as fault:
             raise Problem("BadLine", 400, str(fault)) from fault
-        return Item(call, session, line, moment, log=self.log_of(call.members.get("work"), call.log))
+        return Item(call, session, line, moment, members, log=self.log_of(call.members.get("work"), call.log))
 
     def note_accepted(self, client: str, session: int) -> None:
         """A call of a client was accepted, so its name is kept."""
@@ -210,15 +228,41 @@ class Term(ABC):
             return None
         return WorkLog(held.work, held.execution, held.element, held.partition, text)
 
-    def hand(self, item: Item) -> None:
+    def _queue_up(self, item: Item) -> None:
+        """From now on an item waits to be kept, and its key may have a reply."""
+        if item.call is not None and item.call.key is not None:
+            self.keys.add(item.key_session, item.call.key)
         self._queue.append(item)
-        self.engine.command(item.line, lambda reply, number, seen: self._hear(item, reply, number, seen), item.tag)
+
+    def hand(self, item: Item) -> None:
+        self._queue_up(item)
+        heard = partial(self._hear, item)
+        self.engine.command(item.line, heard, item.tag, item.members)
+        if item.members["do"] in MAKING:
+            self._ask_ahead(item)
+
+    def _ask_ahead(self, item: Item) -> None:
+        """Asks with a start what belongs to its reply: of the job execution that it makes, if none before it is refused.
+
+        So both come in one round through the pipe.
+        """
+        self._making += 1
+        item.asked_ahead = self.engine.executions.last + self._making
+        self.engine.ask_for(unchanging_of(item.asked_ahead), partial(self._hear_ahead, item))
+
+    def _hear_ahead(self, item: Item, answers: Answers | None) -> None:
+        """Takes answers that were asked for ahead, if they are of the job execution that was made."""
+        if answers is None:
+            self._fail_ended()
+        elif item.did is not None and item.did.execution == item.asked_ahead:
+            self._hear_answers(item, item.did.execution, answers)
 
     def _hear(self, item: Item, reply: bytes | None, number: int | None, seen: int) -> None:
         """Notes a reply, and asks what belongs to it."""
         if reply is None or item.call is None:
-            return self.fail(unavailable("CoProcessEnded", "batchctl has ended; the operation may have been kept"))
+            return self._fail_ended()
         item.reply, item.number, item.seen = reply, number, seen
+        self._making -= item.asked_ahead is not None
         if number is None:
             item.log = None
         else:
@@ -228,17 +272,30 @@ class Term(ABC):
                 self.workers.note_sign(item.call.client)
         if not item.heard.done():
             item.heard.set_result(reply)
-        queries = follow_ups(item.call.do, read(reply))
-        if queries:
-            self.engine.ask(queries).add_done_callback(lambda answered: self._hear_answers(item, answered))
-        else:
+        execution = None if number is None else execution_of(item.call.do, self.engine.told)
+        if execution is None:
             self._make_ready(item)
+        elif execution != item.asked_ahead:
+            self._ask_behind(item, execution)
 
-    def _hear_answers(self, item: Item, answered: asyncio.Future[Answers]) -> None:
-        if answered.exception() is not None:
-            return self.fail(unavailable("CoProcessEnded", "batchctl has ended; the operation may have been kept"))
-        item.answers = tuple(answered.result().replies)
+    def _ask_behind(self, item: Item, execution: int) -> None:
+        """Takes what belongs to a reply out of what was told before, or asks for it."""
+        known = self._unchanging.of(execution)
+        if known is not None:
+            item.answers = known[: count_of(item.call.do)] if item.call is not None else ()
+            self._make_ready(item)
+        else:
+            self.engine.ask_for(unchanging_of(execution), partial(self._hear_answers, item, execution))
+
+    def _hear_answers(self, item: Item, execution: int, answers: Answers | None) -> None:
+        if answers is None or item.call is None:
+            return self._fail_ended()
+        self._unchanging.note(execution, answers.replies)
+        item.answers = tuple(answers.replies[: count_of(item.call.do)])
         self._make_ready(item)
+
+    def _fail_ended(self) -> None:
+        self.fail(unavailable("CoProcessEnded", "batchctl has ended; the operation may have been kept"))
 
     def _make_ready(self, item: Item) -> None:
         item.is_ready = True
