@@ -21,9 +21,11 @@ from job_host.service.history.coprocess import CoProcessEnded
 from job_host.service.http.access import Access, Certificate, SettingsRefused
 from job_host.service.http.browsers import CONSOLE, Browsers
 from job_host.service.http.connections import GuardedHandler, GuardedServer
+
 from job_host.service.http.descriptors import fitted, raise_limit
+from job_host.service.http.dispatch import Dispatch
 from job_host.service.http.listening import GuardedSite, Listener
-from job_host.service.http.requests import Asked, Gate, Host, Places, Route, refuse_others
+from job_host.service.http.requests import Asked, Gate, Host, Places, Route, process_ended, refuse_others
 from job_host.service.keepers.embedded import EmbeddedKeeper
 from job_host.service.keepers.keeper import Fatal, Keeper
 from job_host.service.metrics import Metrics
@@ -118,7 +120,7 @@ class Service:
         self.readings: set[asyncio.Future[None]] = set()
 
     def application(self) -> web.Application:
-        application = web.Application(middlewares=[self._answer], client_max_size=self.settings.bounds.body_bytes)
+        application = web.Application(client_max_size=self.settings.bounds.body_bytes)
         for root in ROOTS:
             for route in ROUTES:
                 application.router.add_route(route.method, root + route.path, self._serve(route))
@@ -178,7 +180,6 @@ class Service:
         with self.watchers.enter():
             return await show_events(asked)
 
-    @web.middleware
     async def _answer(self, request: web.Request, handler: Serve) -> web.StreamResponse:
         """Answers every failure by a problem document, and measures."""
         begun = time.monotonic()
@@ -210,7 +211,7 @@ class Service:
             self.access_or_nothing(request)
             return Problem(type(refused).__name__.removeprefix("HTTP"), refused.status).response()
         except CoProcessEnded:
-            return unavailable("CoProcessEnded", "batchctl has ended, and is begun again").response()
+            return process_ended().response()
         except ConnectionError:
             return Problem("ClientGone", 408).response()
         except Exception:
@@ -266,7 +267,7 @@ class Service:
         application = self.application()
         application.freeze()
         bounds = self.settings.bounds
-        server = GuardedServer(application, bounds)
+        server = GuardedServer(application, Dispatch(application, self._answer).handle, bounds)
         self._runner = web.ServerRunner(server)
         await self._runner.setup()
         self.certificate = Certificate(self.settings)

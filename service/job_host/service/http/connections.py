@@ -9,6 +9,7 @@ import asyncio
 import logging
 import socket
 from collections import deque
+from collections.abc import Awaitable, Callable
 from contextlib import suppress
 from typing import Any, cast
 
@@ -16,6 +17,7 @@ from aiohttp import web
 from aiohttp.web_protocol import RequestHandler
 
 from job_host.protocol.seldom import seldom
+from job_host.service.http.head_with_body import HeadWithBody
 from job_host.service.http.room import Room
 from job_host.service.settings import Bounds
 
@@ -31,6 +33,9 @@ log = logging.getLogger(__name__)
 # aiohttp writes a trace for what is no HTTP, by which any client could fill the log. The service logs its own failures.
 QUIET = logging.getLogger("job_host.http")
 QUIET.setLevel(logging.CRITICAL)
+
+
+Handle = Callable[[web.Request], Awaitable[web.StreamResponse]]
 
 
 class GuardedHandler(RequestHandler):
@@ -190,12 +195,15 @@ class GuardedHandler(RequestHandler):
 
 
 class GuardedServer(web.Server):
-    """aiohttp's server of an application, whose connections are guarded."""
+    """aiohttp's server of an application, whose connections are guarded. `handle` answers a request."""
 
-    def __init__(self, application: web.Application, bounds: Bounds) -> None:
+    def __init__(self, application: web.Application, handle: Handle, bounds: Bounds) -> None:
+        def make_request(message: Any, payload: Any, protocol: Any, writer: Any, task: Any) -> web.Request:
+            return application._make_request(message, payload, protocol, HeadWithBody(protocol, protocol._loop), task)
+
         super().__init__(
-            cast(Any, application._handle),
-            request_factory=application._make_request,
+            cast(Any, handle),
+            request_factory=cast(Any, make_request),
             access_log=None,
             keepalive_timeout=IDLE_SECONDS,
             lingering_time=LINGERING_SECONDS,

@@ -10,6 +10,7 @@ from collections import Counter
 from collections.abc import Awaitable, Callable, Iterable, Iterator
 from contextlib import contextmanager
 from dataclasses import dataclass
+from functools import lru_cache
 from typing import Any, NamedTuple
 
 from aiohttp import web
@@ -22,13 +23,14 @@ from job_host.protocol.peers import is_unheard, notice_gone
 from job_host.service.http.access import NAME, Access, Caller
 from job_host.service.keepers.keeper import Keeper
 from job_host.service.pages import USUAL_SIZE, Page
-from job_host.service.problems import Problem, bad_request
+from job_host.service.problems import Problem, bad_request, unavailable
 from job_host.service.settings import Bounds, ServeSettings
 from job_host.service.terms.calls import Call, Kept
 
 KEY = re.compile(r"[\x21-\x7e]+")
 NUMBER = re.compile(r"[0-9]{1,20}")
 ANYBODY = "anybody"
+JSON = "application/json"
 
 # Words of a query that say which page of a list is meant.
 PAGE_WORDS = ("page", "pageSize")
@@ -47,14 +49,30 @@ def number(text: str, what: str) -> int:
     return int(text)
 
 
+def request_key(text: str, what: str, bounds: Bounds) -> str:
+    """A request key as a client writes it."""
+    if len(text) > bounds.key_bytes or not KEY.fullmatch(text):
+        raise bad_request(f"{what} has 1 to {bounds.key_bytes} printable characters without spaces")
+    return text
+
+
+def process_ended() -> Problem:
+    return unavailable("CoProcessEnded", "batchctl has ended, and is begun again")
+
+
 def refuse_constant(text: str) -> Any:
     raise ValueError(f"{text} is no JSON")
 
 
 def address_of(request: web.Request) -> str:
     """The remote address of a request, as an address is written: none that a header names."""
+    return written_address(request.remote or "")
+
+
+@lru_cache(maxsize=1_024)
+def written_address(remote: str) -> str:
     try:
-        address = ipaddress.ip_address((request.remote or "").partition("%")[0])
+        address = ipaddress.ip_address(remote.partition("%")[0])
     except ValueError:
         return ""
     return str(getattr(address, "ipv4_mapped", None) or address)
@@ -140,15 +158,16 @@ class Asked:
 
     def call(self, do: str, members: Members, print_of: bytes, **more: Any) -> Call:
         """A call of this request, by its key, with where it came from."""
-        return Call(self.client, do, members, self.key, print_of, address=self.address, **more)
+        return self.keyed_call(self.key, do, members, print_of, **more)
+
+    def keyed_call(self, key: str | None, do: str, members: Members, print_of: bytes, **more: Any) -> Call:
+        """A call by a key, of which a request may have several."""
+        return Call(self.client, do, members, key, print_of, address=self.address, **more)
 
     @property
     def key(self) -> str | None:
         key = self.request.headers.get(REQUEST_KEY)
-        if key is not None and (len(key) > self.host.settings.bounds.key_bytes or not KEY.fullmatch(key)):
-            most = self.host.settings.bounds.key_bytes
-            raise bad_request(f"{REQUEST_KEY} has 1 to {most} printable characters without spaces")
-        return key
+        return None if key is None else request_key(key, REQUEST_KEY, self.host.settings.bounds)
 
     @property
     def at_least(self) -> int:
@@ -157,6 +176,8 @@ class Asked:
 
     def expect_words(self, known: Iterable[str]) -> None:
         """Refuses a query with other words, or with one that comes twice: part of it would be left out otherwise."""
+        if not self.request.rel_url.raw_query_string:
+            return
         refuse_others("the query has words", self.request.query, known)
         counts = Counter(self.request.query.keys())
         twice = sorted(word for word, count in counts.items() if count > 1 and word not in SEVERAL)
@@ -191,7 +212,8 @@ class Asked:
         text = await self.data()
         if not text:
             return {}
-        if self.request.content_type != "application/json":
+        # aiohttp reads a media type by what reads mail, and that of nearly all requests is so.
+        if self.request.headers.get("Content-Type") != JSON and self.request.content_type != JSON:
             raise Problem("UnsupportedMediaType", 415, "the body is application/json")
         try:
             value = json.loads(text, parse_constant=refuse_constant)
@@ -202,7 +224,9 @@ class Asked:
         return value
 
     async def data(self) -> bytes:
-        """The body as it came."""
+        """The body as it came. One that is here already isn't waited for."""
+        if self.request.content.is_eof():
+            return await self.request.read()
         try:
             return await asyncio.wait_for(self.request.read(), self.host.settings.bounds.slow_after)
         except asyncio.TimeoutError as fault:
