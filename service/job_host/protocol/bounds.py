@@ -10,5 +10,7 @@ PAGE_SIZE, PAGE_OF_LARGE_ROWS = 1_000, 100
 REQUESTS_AT_ONCE = 64
 # Names of artifacts that a worker tells, and the characters of a name, at most.
 MOST_ARTIFACTS, ARTIFACT_CHARACTERS = 1_000, 255
+# Reports of a worker in one request, at most.
+MOST_REPORTS = 32
 # The log of a work item: its last bytes.
 LOG_BYTES = 65_536

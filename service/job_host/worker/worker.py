@@ -26,6 +26,7 @@ from job_host.worker.environment import WorkFiles, environment, use_of
 from job_host.worker.folder import ArtifactFolder
 from job_host.worker.listeners import Listeners
 from job_host.worker.output import ExitFile, FirstLine, Tail, drain
+from job_host.worker.reports import Reports
 from job_host.worker.steps import StepRun, Task
 
 log = logging.getLogger(__name__)
@@ -160,6 +161,7 @@ class Worker:
         ending: Ending | None = None,
     ) -> None:
         self._client = client
+        self._reports = Reports(client.operate)
         self._system_properties = {name: os.environ[name] for name in system_properties if name in os.environ}
         self._folder = ArtifactFolder(folder)
         self._slots = slots
@@ -342,9 +344,9 @@ class Worker:
         await self._report(claimed, "finish", body)
 
     async def _report(self, claimed: dict[str, Any], action: str, body: dict[str, Any]) -> dict[str, Any]:
-        path = f"/batch/work/{claimed['work']['work']}?action={action}"
         try:
-            told = await until_told(self._client.operate("PUT", path, body, patience=FOREVER), self.hurry, HURRY_SECONDS)
+            reporting = self._reports.send(claimed["work"]["work"], action, body)
+            told = await until_told(reporting, self.hurry, HURRY_SECONDS)
         except Refused as refused:
             raise Lost(f"{action} was refused: {refused}") from refused
         return dict(told)

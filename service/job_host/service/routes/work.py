@@ -2,8 +2,9 @@
 
 from __future__ import annotations
 
+from collections.abc import Callable
 from contextlib import nullcontext
-from typing import Any
+from typing import Any, NamedTuple
 
 from aiohttp import web
 
@@ -28,6 +29,8 @@ ACTIONS = {
     "finish": ("outcome", "exit", "metrics"),
     "lose": (),
 }
+# What a worker reports of a work item.
+REPORTS = ("checkpoint", "finish", "heartbeat")
 
 
 async def claim(asked: Asked) -> web.StreamResponse:
@@ -162,24 +165,39 @@ def held_page(asked: Asked) -> HeldPage:
 
 async def change_work(asked: Asked) -> web.StreamResponse:
     action = asked.request.query.get("action", "")
-    if action == "heartbeat":
-        return await heartbeat(asked)
-    if action not in ACTIONS:
+    if action not in (*REPORTS, "lose"):
         raise bad_request("action is checkpoint, finish, heartbeat or lose")
     right = "operate" if action == "lose" else "work"
     if right not in asked.caller.rights and not (action == "lose" and "work" in asked.caller.rights):
         raise Problem("RoleLacksRight", 403, f"{action} isn't for this token's role")
-    body = await asked.body()
+    report = Report(action, asked.path_number, lambda: asked.key)
+    return asked.answer(*await reported(asked, report, await asked.body()))
+
+
+class Report(NamedTuple):
+    """A report of a work item. Its number and its key are looked at after its body, and may raise a problem."""
+
+    action: str
+    work: Callable[[], int]
+    key: Callable[[], str | None]
+
+
+async def reported(asked: Asked, report: Report, body: dict[str, Any]) -> tuple[Any, int]:
+    """Makes a report of a work item, or loses it. Returns what is answered, and how many operations that saw."""
+    action = report.action
+    if action == "heartbeat":
+        return await heartbeat(asked, report.work, body)
     expect_members(body, "log", *ACTIONS[action])
-    log = log_of(asked, body)
-    members: Members = {"work": asked.path_number(), **{name: body[name] for name in ACTIONS[action] if name in body}}
+    log, work = log_of(asked, body), report.work()
+    members: Members = {"work": work, **{name: body[name] for name in ACTIONS[action] if name in body}}
     if action != "lose":
         asked.named_client()
-    kept = await asked.keeper.submit(asked.call(action, members, fingerprint(action, members), log=log))
+    call = asked.keyed_call(report.key(), action, members, fingerprint(action, members), log=log)
+    kept = await asked.keeper.submit(call)
     told = answer_of(kept.reply, kept.seen)
     if action == "checkpoint":
-        asked.keeper.leases.renew(asked.path_number())
-    return asked.answer(told, kept.seen)
+        asked.keeper.leases.renew(work)
+    return told, kept.seen
 
 
 def log_of(asked: Asked, body: dict[str, Any]) -> str | None:
@@ -193,14 +211,11 @@ def log_of(asked: Asked, body: dict[str, Any]) -> str | None:
     return log.encode("utf-8", "replace")[-most:].decode("utf-8", "ignore")
 
 
-async def heartbeat(asked: Asked) -> web.StreamResponse:
+async def heartbeat(asked: Asked, work: Callable[[], int], body: dict[str, Any]) -> tuple[Any, int]:
     """Renews the lease of a work item, and says whether its job execution is asked to stop."""
-    if "work" not in asked.caller.rights:
-        raise Problem("RoleLacksRight", 403, "heartbeat isn't for this token's role")
-    body = await asked.body()
     expect_members(body, "log")
-    stop, seen = await asked.keeper.heartbeat(asked.named_client(), asked.path_number(), log_of(asked, body))
-    return asked.answer({"stop": stop, "lease": asked.host.settings.lease}, seen)
+    stop, seen = await asked.keeper.heartbeat(asked.named_client(), work(), log_of(asked, body))
+    return {"stop": stop, "lease": asked.host.settings.lease}, seen
 
 
 ROUTES = [
