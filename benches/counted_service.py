@@ -11,7 +11,6 @@ import json
 import os
 import signal
 import sys
-import threading
 from collections import Counter
 from collections.abc import Callable
 from concurrent.futures import ThreadPoolExecutor
@@ -39,11 +38,11 @@ def counting(owner: Any, name: str, what: str) -> None:
 
 
 def count_all() -> None:
-    counting(json, "loads", "parses")
-    counting(json, "dumps", "serialisations")
+    counting(json.JSONDecoder, "decode", "parses")
+    counting(json.JSONEncoder, "encode", "serialisations")
     counting(ThreadPoolExecutor, "submit", "thread hops")
     counting(asyncio.unix_events._UnixWritePipeTransport, "write", "writes to batchctl")  # type: ignore[attr-defined]
-    counting(asyncio.selector_events._SelectorSocketTransport, "write", "writes to clients")  # type: ignore[attr-defined]
+    counting(asyncio.selector_events._SelectorSocketTransport, "write", "writes to sockets")  # type: ignore[attr-defined]
     counting(asyncio.events.Handle, "_run", "turns of the event loop's callbacks")
     counting(postgres.PostgresStore, "commit", "commits to PostgreSQL")
     counting(postgres.PostgresStore, "_fetch", "reads of PostgreSQL")
@@ -52,7 +51,7 @@ def count_all() -> None:
 def write_counts(path: Path) -> None:
     new = path.with_suffix(".new")
     seconds = sum(os.times()[:2])
-    new.write_text(json.JSONEncoder().encode({**counts, "seconds": seconds, "threads": threading.active_count()}))
+    new.write_text(json.dumps({**counts, "seconds": seconds}))
     new.rename(path)
 
 

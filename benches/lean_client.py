@@ -1,4 +1,4 @@
-"""A client over HTTP that costs next to nothing itself, so that a figure is the service's: one connection, one call at a time."""
+"""A client over HTTP that costs little itself, so that a figure is the service's: one connection, one call at a time."""
 
 from __future__ import annotations
 

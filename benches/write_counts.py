@@ -36,7 +36,6 @@ CHUNK = {"item-count": 100, "reader": {"ref": "rows"}, "writer": {"ref": "table"
 CATALOGUE = {"jobs": [{"id": "copy", "elements": [{"kind": "step", "id": "copy", "chunk": CHUNK}]}]}
 METRICS = {"READ_COUNT": 100, "WRITE_COUNT": 100, "COMMIT_COUNT": 1}
 COUNTED = Path(__file__).resolve().with_name("counted_service.py")
-WAL = "select wal_sync, wal_records from pg_stat_wal"
 TICKS = os.sysconf("SC_CLK_TCK")
 
 
@@ -63,9 +62,7 @@ class Counted:
         os.kill(self.number, signal.SIGUSR2)
         while not self._counts.exists():
             time.sleep(0.01)
-        told = json.loads(self._counts.read_text())
-        told.pop("threads")
-        return {**told, "syncs": self._syncs.read_text().count("sync(")}
+        return {**json.loads(self._counts.read_text()), "syncs": self._syncs.read_text().count("sync(")}
 
     def end(self) -> None:
         os.kill(self.number, signal.SIGTERM)
@@ -126,8 +123,7 @@ async def until_ready(port: int) -> None:
 
 def code_of(service: Path) -> str:
     """Runs the counted service with the modules of another checkout."""
-    text = COUNTED.read_text().replace('Path(__file__).resolve().parents[1] / "service"', f"Path({str(service)!r})")
-    return text.replace("sys.argv.pop(1)", "sys.argv.pop(1)")
+    return COUNTED.read_text().replace('Path(__file__).resolve().parents[1] / "service"', f"Path({str(service)!r})")
 
 
 async def run(given: argparse.Namespace, folder: Path, server: PostgresServer) -> None:

@@ -186,7 +186,7 @@ async def test_a_report_has_a_place_among_those_in_hand(either: Make) -> None:
     async with running(either(bounds=Bounds(requests_at_once=2))) as instance:
         caller = Caller(instance.url)
         await claimed(caller, "short", "short", "short")
-        finish = {"action": "finish", "outcome": "COMPLETED"}
+        finish: dict[str, Any] = {"action": "finish", "outcome": "COMPLETED"}
         answer = await report(caller, *({**finish, "work": work} for work in (1, 2, 3)))
         assert told_of(answer) == [(200, {"done": True}), (200, {"done": True}), (429, "TooManyRequests")]
         assert told_of(await report(caller, {**finish, "work": 3})) == [(200, {"done": True})]

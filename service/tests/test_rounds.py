@@ -17,6 +17,7 @@ from job_host.service.keepers.keeper import first_of
 from job_host.service.keepers.postgres_compacting import PostgresCompacting
 from job_host.service.problems import unavailable
 from job_host.service.terms.calls import Item, Kept, KeptRequest
+from job_host.service.terms.known_keys import KeptKey
 from job_host.service.terms.sessions import Sessions
 from job_host.service.terms.term import Observers, Term, TermSettings
 
@@ -26,6 +27,9 @@ class Rounds(Term):
 
     async def find(self, session: int, key: str) -> KeptRequest | None:
         return None
+
+    async def keys_behind(self, last: KeptKey | None, most: int) -> Sequence[KeptKey]:
+        return []
 
     async def session_of(self, name: str) -> int | None:
         return None

@@ -15,7 +15,7 @@ from job_host.service.settings import ServeSettings
 from job_host.worker.reports import MOST_BYTES, PATH, Reports, lists_of
 
 Make = Callable[..., ServeSettings]
-DONE = {"done": True}
+DONE: dict[str, Any] = {"done": True}
 
 
 class Service:
@@ -46,7 +46,7 @@ class Service:
 async def finish(reports: Reports, *works: int, log: str = "") -> list[Any]:
     """Reports work items at the same time. Returns what each was told, or refused by."""
     told = (reports.send(work, "finish", {"outcome": "COMPLETED", "log": log}) for work in works)
-    return await asyncio.gather(*told, return_exceptions=True)
+    return list(await asyncio.gather(*told, return_exceptions=True))
 
 
 async def test_a_lone_report_is_a_request_of_its_own() -> None:
@@ -106,7 +106,7 @@ async def test_what_passes_is_asked_again_alone_by_its_key() -> None:
 async def test_a_service_that_takes_no_lists_is_told_each_report(name: str, is_old: bool) -> None:
     service = Service(Refused(405, {"title": name}))
     reports = Reports(service.operate)
-    alone = [{"alone": f"/batch/work/{work}?action=finish"} for work in (1, 2)]
+    alone: list[dict[str, Any]] = [{"alone": f"/batch/work/{work}?action=finish"} for work in (1, 2)]
     assert await finish(reports, 1, 2) == alone
     assert await finish(reports, 1, 2) == (alone if is_old else [DONE, DONE])
     assert service.paths.count(PATH) == (1 if is_old else 2)

@@ -9,10 +9,14 @@ from typing import Any
 
 Members = Mapping[str, Any]
 
+# `json.dumps` makes an encoder anew for each text that isn't written as usual.
+COMPACT = json.JSONEncoder(ensure_ascii=True, allow_nan=False, separators=(",", ":"))
+SORTED = json.JSONEncoder(sort_keys=True)
+
 
 def compact(members: Members) -> bytes:
     """One object as one line of ASCII, without its line feed. Raises ValueError if it holds NaN or an infinity."""
-    return json.dumps(members, ensure_ascii=True, allow_nan=False, separators=(",", ":")).encode("ascii")
+    return COMPACT.encode(members).encode("ascii")
 
 
 def command_members(do: str, session: int, moment: int, members: Members) -> dict[str, Any]:
@@ -32,7 +36,7 @@ def query(ask: str, **members: Any) -> bytes:
 
 def fingerprint(*parts: Any) -> bytes:
     """A digest of a request, by which a request key that is used for another request is noticed."""
-    return hashlib.sha256(json.dumps(parts, sort_keys=True).encode("ascii")).digest()
+    return hashlib.sha256(SORTED.encode(parts).encode("ascii")).digest()
 
 
 def digest(line: bytes) -> str:

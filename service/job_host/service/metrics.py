@@ -38,6 +38,7 @@ class Metrics:
     def __init__(self, history: HistoryBounds) -> None:
         self._most = history.most
         self.registry = CollectorRegistry()
+        self._of_requests: dict[tuple[str, str, int], tuple[Counter, Histogram]] = {}
         given: dict[str, Any] = {"registry": self.registry}
         self.requests = Counter("jobhost_requests", "Requests by route and status", ["method", "route", "status"], **given)
         self.seconds = Histogram("jobhost_request_seconds", "Seconds of a request", ["route"], **given)
@@ -70,6 +71,15 @@ class Metrics:
         self.compacting = Gauge("jobhost_compaction_seconds", "Seconds of the last compaction", **given)
         self.compacted_at = Gauge("jobhost_compaction_begun", "When the last compaction began, in seconds since 1970", **given)
         self.not_compacted = Gauge("jobhost_compaction_failed", "1 if the last compaction failed", **given)
+
+    def note_request(self, method: str, route: str, status: int, seconds: float) -> None:
+        """Counts a request. Its counters are looked up by their labels once: there are few of them."""
+        of = (method, route, status)
+        found = self._of_requests.get(of)
+        if found is None:
+            found = self._of_requests[of] = (self.requests.labels(*of), self.seconds.labels(route))
+        found[0].inc()
+        found[1].observe(seconds)
 
     def observers(self) -> Observers:
         return Observers(self._observe_commit)

@@ -195,8 +195,7 @@ class Service:
         route = resource.canonical.removeprefix(LIBERTY_ROOT) if resource is not None else "none"
         response.headers.setdefault("X-Content-Type-Options", "nosniff")
         method = request.method if request.method in ("GET", "POST", "PUT", "DELETE", "HEAD") else "other"
-        self.metrics.requests.labels(method, route, response.status).inc()
-        self.metrics.seconds.labels(route).observe(time.monotonic() - begun)
+        self.metrics.note_request(method, route, response.status, time.monotonic() - begun)
         return response
 
     async def _answered(self, request: web.Request, handler: Serve) -> web.StreamResponse:

@@ -64,6 +64,10 @@ def refuse_constant(text: str) -> Any:
     raise ValueError(f"{text} is no JSON")
 
 
+# `json.loads` makes a decoder anew for each text that isn't read as usual.
+DECODER = json.JSONDecoder(parse_constant=refuse_constant)
+
+
 def address_of(request: web.Request) -> str:
     """The remote address of a request, as an address is written: none that a header names."""
     return written_address(request.remote or "")
@@ -216,7 +220,7 @@ class Asked:
         if self.request.headers.get("Content-Type") != JSON and self.request.content_type != JSON:
             raise Problem("UnsupportedMediaType", 415, "the body is application/json")
         try:
-            value = json.loads(text, parse_constant=refuse_constant)
+            value = DECODER.decode(text.decode(json.detect_encoding(text), "surrogatepass"))
         except (ValueError, RecursionError) as fault:
             raise bad_request("the body is no JSON") from fault
         if not isinstance(value, dict):

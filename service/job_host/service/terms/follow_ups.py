@@ -5,15 +5,15 @@ from __future__ import annotations
 from collections.abc import Sequence
 from typing import Any
 
-from job_host.protocol.lines import query
-
+# Written without an encoder for each.
+UNCHANGING = (b'{"ask":"job_instance","execution":%d}', b'{"ask":"parameters","execution":%d}')
 # What was told of the last job executions is remembered: of so many, and so many bytes.
 MOST_REMEMBERED, MOST_BYTES = 10_000, 16_777_216
 
 
 def unchanging_of(execution: int) -> list[bytes]:
     """The queries for all that never changes of a job execution."""
-    return [query("job_instance", execution=execution), query("parameters", execution=execution)]
+    return [ask % execution for ask in UNCHANGING]
 
 
 def follow_ups(do: str, reply: dict[str, Any]) -> list[bytes]:
