@@ -1,10 +1,11 @@
 #!/usr/bin/python3
 """Measures the service: operations a second and their 99th percentile, beside a repository in SQL on the same PostgreSQL.
 
-    benches/service_calls.py [--seconds 5] [--clients 1,8,64] [--replay 100000] [--takeovers 5]
+    benches/service_calls.py [--seconds 5] [--clients 1,8,64] [--rounds 1] [--before DIR] [--replay 100000] [--takeovers 5]
 
 One job execution is a start, a claim, a checkpoint and a finish. Clients of the service call over HTTP with a request key each;
-the repository in SQL is called without HTTP, on a connection for each client. All is measured in one run, in turn.
+the repository in SQL is called without HTTP, on a connection for each client. All is measured in one run, in turn, in so many
+rounds. `--before` is another checkout, whose service is measured beside this one's.
 This measures only how long it takes until a history is served again:
 
     benches/service_calls.py --clients '' --takeovers 0 --replay 900000
@@ -25,6 +26,7 @@ import time
 import uuid
 from collections.abc import Awaitable, Callable
 from dataclasses import dataclass, field
+from functools import partial
 from pathlib import Path
 from typing import Any
 
@@ -37,6 +39,7 @@ sys.path.insert(0, str(SERVICE / "tests"))
 
 from instances import Caller, Process, until  # noqa: E402
 from postgres_server import PostgresServer, children_of  # noqa: E402
+from lean_client import LeanClient  # noqa: E402
 from sql_repository import SCHEMA, SqlRepository  # noqa: E402
 
 from job_host.commands.program import find_batchctl  # noqa: E402
@@ -53,17 +56,18 @@ REPLAY_SECONDS = 120.0
 
 @dataclass
 class Measured:
-    """The seconds of each operation, and of the whole."""
+    """The seconds of each operation, and of the whole, and those of the processor that the service's own process had."""
 
     name: str
     clients: int
     seconds: float
     times: list[float] = field(default_factory=list)
+    processor: float = 0.0
 
     def line(self) -> str:
         percentile = statistics.quantiles(self.times, n=100)[98] if len(self.times) > 1 else float("nan")
-        rate = len(self.times) / self.seconds
-        return f"{self.name:24} {self.clients:8} {rate:12.0f} {percentile * 1000:12.1f}"
+        rate, processor = len(self.times) / self.seconds, 1_000 * self.processor / max(1, len(self.times))
+        return f"{self.name:24} {self.clients:8} {rate:12.0f} {percentile * 1000:12.1f} {processor:14.2f}"
 
 
 # Runs one job execution, and adds the seconds of each of its four operations.
@@ -91,38 +95,31 @@ async def measure(name: str, runs: list[Run], seconds: float) -> Measured:
     return measured
 
 
-class HttpClient:
-    """One client of the service, by one connection that stays."""
-
-    def __init__(self, session: aiohttp.ClientSession, url: str, name: str) -> None:
-        self._session = session
-        self._url = url
-        self._name = name
-
-    async def _ask(self, method: str, path: str, body: Any) -> Any:
-        headers = {"Batch-Client": self._name, "Idempotency-Key": uuid.uuid4().hex}
-        async with self._session.request(method, self._url + path, json=body, headers=headers) as response:
-            told = await response.json()
-            if response.status >= 400:
-                raise RuntimeError(told)
-            return told
-
-    async def run(self, times: list[float]) -> None:
-        body = {"jobName": "copy", "jobParameters": {"night": uuid.uuid4().hex}}
-        await timed(times, self._ask("POST", "/batch/jobinstances", body))
-        work = (await timed(times, self._ask("POST", "/batch/work", {})))["work"]["work"]
-        group = {"data": "100", "metrics": METRICS}
-        await timed(times, self._ask("PUT", f"/batch/work/{work}?action=checkpoint", group))
-        await timed(times, self._ask("PUT", f"/batch/work/{work}?action=finish", {"outcome": "COMPLETED"}))
+async def run_http(client: LeanClient, times: list[float]) -> None:
+    body = {"jobName": "copy", "jobParameters": {"night": uuid.uuid4().hex}}
+    await timed(times, client.ask("POST", "/batch/jobinstances", body))
+    work = (await timed(times, client.ask("POST", "/batch/work", {})))["work"]["work"]
+    group = {"data": "100", "metrics": METRICS}
+    await timed(times, client.ask("PUT", f"/batch/work/{work}?action=checkpoint", group))
+    await timed(times, client.ask("PUT", f"/batch/work/{work}?action=finish", {"outcome": "COMPLETED"}))
 
 
-async def measure_service(name: str, url: str, counts: list[int], seconds: float) -> list[Measured]:
-    measured = []
-    for count in counts:
-        async with aiohttp.ClientSession(connector=aiohttp.TCPConnector(limit=0)) as session:
-            clients = [HttpClient(session, url, f"{name}-{count}-{number}".replace(" ", "-")) for number in range(count)]
-            measured.append(await measure(name, [client.run for client in clients], seconds))
+async def measure_service(name: str, service: Process, count: int, seconds: float) -> Measured:
+    clients = [LeanClient(service.port, f"client-{count}-{number}") for number in range(count)]
+    for client in clients:
+        await client.open()
+    before = processor_seconds(service.number)
+    measured = await measure(name, [partial(run_http, client) for client in clients], seconds)
+    measured.processor = processor_seconds(service.number) - before
+    for client in clients:
+        client.close()
     return measured
+
+
+def processor_seconds(number: int) -> float:
+    """The seconds of the processor that a process has had."""
+    told = Path(f"/proc/{number}/stat").read_text().rpartition(")")[2].split()
+    return (int(told[11]) + int(told[12])) / os.sysconf("SC_CLK_TCK")
 
 
 async def run_sql(repository: SqlRepository, times: list[float]) -> None:
@@ -132,16 +129,12 @@ async def run_sql(repository: SqlRepository, times: list[float]) -> None:
     await timed(times, repository.finish())
 
 
-async def measure_sql(dsn: str, counts: list[int], seconds: float) -> list[Measured]:
-    measured = []
-    for count in counts:
-        connections = [await asyncpg.connect(dsn, server_settings={"jit": "off"}) for _ in range(count)]
-        await connections[0].execute(SCHEMA)
-        repositories = [SqlRepository(connection) for connection in connections]
-        runs: list[Run] = [lambda times, one=one: run_sql(one, times) for one in repositories]  # type: ignore[misc]
-        measured.append(await measure("statements of SQL", runs, seconds))
-        for connection in connections:
-            await connection.close()
+async def measure_sql(dsn: str, count: int, seconds: float) -> Measured:
+    connections = [await asyncpg.connect(dsn, server_settings={"jit": "off"}) for _ in range(count)]
+    await connections[0].execute(SCHEMA)
+    measured = await measure("statements of SQL", [partial(run_sql, SqlRepository(one)) for one in connections], seconds)
+    for connection in connections:
+        await connection.close()
     return measured
 
 
@@ -165,24 +158,35 @@ class Bench:
         words = [*self.batchctl, "script", "--log", str(self.folder / "probe.log")]
         return subprocess.run(words, input=b'{"jobs":[]}\n', capture_output=True, check=False).returncode != 2
 
-    async def throughput(self, counts: list[int], seconds: float) -> None:
-        print(f"{'':24} {'clients':>8} {'operations/s':>12} {'99th, ms':>12}")
-        measured = []
-        if self.has_log():
-            embedded = self.service("embedded", "--data", str(self.folder / "data"))
-            measured += await self._by(embedded, "embedded", counts, seconds)
-        measured += await self._by(self.service("postgres", "--postgres", self.database("kept")), "PostgreSQL", counts, seconds)
-        measured += await measure_sql(self.database("statements"), counts, seconds)
-        for one in measured:
-            print(one.line())
+    async def throughput(self, given: argparse.Namespace, counts: list[int]) -> None:
+        print(f"{'':24} {'clients':>8} {'operations/s':>12} {'99th, ms':>12} {'processor, ms':>14}")
+        services = self._services("", None) + ([] if given.before is None else self._services("before, ", given.before))
+        statements = self.database("statements")
+        for count in counts * given.rounds:
+            for name, service in services:
+                print((await self._by(service, name, count, given.seconds)).line(), flush=True)
+            print((await measure_sql(statements, count, given.seconds)).line(), flush=True)
 
-    async def _by(self, service: Process, name: str, counts: list[int], seconds: float) -> list[Measured]:
+    def _services(self, prefix: str, checkout: Path | None) -> list[tuple[str, Process]]:
+        """The services of this checkout, or of another one, each by its name."""
+        name = f"kept{len(prefix)}"
+        found = [("PostgreSQL", self.service(name, "--postgres", self.database(name)))]
+        if self.has_log():
+            found.insert(0, ("embedded", self.service(f"embedded{len(prefix)}", "--data", str(self.folder / name))))
+        for _, service in found:
+            if checkout is not None:
+                service.words[1] = str(checkout / "service" / "jobhost")
+        return [(prefix + kind, service) for kind, service in found]
+
+    async def _by(self, service: Process, name: str, count: int, seconds: float) -> Measured:
+        """Starts a service anew for each measurement: so none runs beside what is measured."""
         service.start()
         try:
             await service.until_role("leader")
-            return await measure_service(name, service.url, counts, seconds)
+            return await measure_service(name, service, count, seconds)
         finally:
-            service.kill()
+            service.signal(signal.SIGTERM)
+            service.wait()
 
     async def takeover(self, times: int) -> None:
         """Kills the leader, and takes the time until the other instance has kept an operation."""
@@ -312,7 +316,7 @@ async def tell(service: Process, what: str, begun: float, condition: Callable[[]
 async def run(given: argparse.Namespace, bench: Bench) -> None:
     counts = [int(word) for word in given.clients.split(",") if word]
     if counts:
-        await bench.throughput(counts, given.seconds)
+        await bench.throughput(given, counts)
     if given.takeovers:
         await bench.takeover(given.takeovers)
     if given.replay:
@@ -323,6 +327,8 @@ def main() -> int:
     parser = argparse.ArgumentParser(description=(__doc__ or "").splitlines()[0])
     parser.add_argument("--seconds", type=float, default=5.0)
     parser.add_argument("--clients", default="1,8,64")
+    parser.add_argument("--rounds", type=int, default=1)
+    parser.add_argument("--before", type=Path)
     parser.add_argument("--replay", type=int, default=100_000)
     parser.add_argument("--takeovers", type=int, default=5)
     given = parser.parse_args()
