@@ -84,7 +84,9 @@ async def test_what_is_left_is_cut_off_and_was_run_once(embedded: Make, night: P
             caller = Caller(instance.url)
             (logged,) = (await caller.ask("GET", "/batch/jobexecutions/1/joblogs")).told
             (item,) = (await caller.ask("GET", "/batch/jobexecutions/1/workitems")).told
+            (step,) = (await caller.ask("GET", "/batch/jobexecutions/1/stepexecutions")).told
         assert await caller.status(1) == "FAILED" and "the worker was told to end" in logged["log"]
+        assert (item["exitStatus"], step["exitStatus"]) == ("cut off", "cut off")
         assert (item["outcome"], (artifacts / "begun").read_text(), (artifacts / "ended").exists()) == ("FAILED", "1\n", False)
     why = "told to end once more" if words is LATE else "the grace of 0.2 seconds is over"
     assert f"{why}: what is left is cut off" in worker.log.read_text()

@@ -14,6 +14,8 @@ log = logging.getLogger(__name__)
 
 # Exit statuses of `jobhost worker`.
 DRAINED, REFUSED, CUT_OFF, NO_WORK = 0, 1, 3, 4
+# The exit status of a work item that is cut off, which a transition element or a restart policy may name.
+CUT_OFF_EXIT = "cut off"
 # What is cut off has ended, and was reported or given up, after so many seconds.
 CUT_OFF_SECONDS = 40.0
 # The service is told so often: another instance may lead meanwhile, which doesn't know.

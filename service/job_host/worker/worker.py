@@ -21,7 +21,7 @@ from job_host.protocol.seldom import seldom
 from job_host.worker import artifacts
 from job_host.worker.artifacts import Artifact, Ended, Program
 from job_host.worker.chunks import Chunk
-from job_host.worker.draining import CUT_OFF, DRAINED, NO_WORK, REFUSED, Ending, tell_drain
+from job_host.worker.draining import CUT_OFF, CUT_OFF_EXIT, DRAINED, NO_WORK, REFUSED, Ending, tell_drain
 from job_host.worker.environment import WorkFiles, environment, use_of
 from job_host.worker.folder import ArtifactFolder
 from job_host.worker.listeners import Listeners
@@ -318,7 +318,7 @@ class Worker:
 
     @staticmethod
     async def _ended(running: asyncio.Future[Ended]) -> Ended:
-        return Ended("FAILED") if running.cancelled() else await running
+        return Ended("FAILED", CUT_OFF_EXIT) if running.cancelled() else await running
 
     async def _run_artifact(self, claimed: dict[str, Any], tail: Tail, told: Told) -> Ended:
         if "propertiesFault" in claimed:

@@ -48,6 +48,7 @@ from job_host.service.terms.calls import (
     LogPage,
     LogSize,
     WorkLog,
+    answers_text,
 )
 from job_host.service.terms.known_keys import KeptKey
 from job_host.service.terms.sessions import Silent
@@ -352,7 +353,7 @@ def _columns(items: Sequence[Item], clients: dict[str, int]) -> list[Any]:
         [item.call.key if item.call else None for item in keyed],
         [item.call.fingerprint if item.call else b"" for item in keyed],
         [item.reply.decode() for item in keyed],
-        [json.dumps([answer.decode() for answer in item.answers]) for item in keyed],
+        [answers_text(item.answers) for item in keyed],
         [item.seen for item in keyed],
         [log.work for log in logs],
         [log.execution for log in logs],

@@ -34,6 +34,7 @@ from job_host.service.terms.calls import (
     LogPage,
     LogSize,
     WorkLog,
+    answers_text,
 )
 from job_host.service.terms.known_keys import KeptKey
 from job_host.service.terms.sessions import Silent
@@ -103,7 +104,7 @@ class Request:
     kept_at: float
 
     def row(self) -> tuple[Any, ...]:
-        answers = json.dumps([answer.decode() for answer in self.kept.answers])
+        answers = answers_text(self.kept.answers)
         head = (self.session, self.key, self.fingerprint, self.moment, self.line)
         return (*head, self.kept.reply, answers, self.kept.seen, self.kept_at)
 

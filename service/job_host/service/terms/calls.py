@@ -3,7 +3,8 @@
 from __future__ import annotations
 
 import asyncio
-from collections.abc import Awaitable, Callable
+import json
+from collections.abc import Awaitable, Callable, Sequence
 from dataclasses import dataclass, field
 from typing import Any
 
@@ -101,6 +102,11 @@ class Kept:
 
     def told(self) -> dict[str, Any]:
         return read(self.reply)
+
+
+def answers_text(answers: Sequence[bytes]) -> str:
+    """The answers that belong to a reply, as a store keeps them. Most replies have none."""
+    return json.dumps([answer.decode() for answer in answers]) if answers else "[]"
 
 
 @dataclass(frozen=True)
