@@ -7,7 +7,7 @@ import time
 from abc import ABC, abstractmethod
 from collections import deque
 from collections.abc import Awaitable, Callable, Sequence
-from contextlib import suppress
+from contextlib import ExitStack, suppress
 from dataclasses import dataclass, replace
 from functools import partial
 
@@ -57,7 +57,7 @@ class Term(ABC):
         self.workers = Workers()
         self._queue: deque[Item] = deque()
         self._wake = asyncio.Event()
-        self._under_way: dict[tuple[str | None, str], tuple[bytes, asyncio.Task[Kept]]] = {}
+        self._under_way: dict[tuple[str | None, str], tuple[bytes, asyncio.Future[Kept]]] = {}
         self._readers: list[tuple[int, asyncio.Future[None]]] = []
         self.keys = KnownKeys()
         self._unchanging = Unchanging()
@@ -101,12 +101,35 @@ class Term(ABC):
         slot = (None if call.is_once else call.client, call.key)
         before = self._under_way.get(slot)
         if before is None:
-            task = asyncio.get_running_loop().create_task(self._once(call, call.key))
-            before = self._under_way[slot] = (call.fingerprint, task)
-            task.add_done_callback(lambda done: self._leave(slot, done))
+            done = self._at_once(call, call.key) or asyncio.get_running_loop().create_task(self._once(call, call.key))
+            before = self._under_way[slot] = (call.fingerprint, done)
+            done.add_done_callback(lambda done: self._leave(slot, done))
         if before[0] != call.fingerprint:
             raise key_reused()
         return await asyncio.shield(before[1])
+
+    def _at_once(self, call: Call, key: str) -> asyncio.Future[Kept] | None:
+        """Hands over a call by a new key if nothing has to be asked or waited for before. Returns none if something has."""
+        is_plain = call.do != "claim" and call.make is None and call.resolve is None and call.confirm is None
+        if not is_plain or self.engine.turn.locked() or not self.sessions.is_known(call.client):
+            return None
+        if self._may_be_kept(call, key):
+            return None
+        with ExitStack() as in_hand:
+            in_hand.enter_context(self.sessions.hearing(call.client))
+            self.check(call)
+            item = self.item_of(call)
+            self.hand(item)
+            heard = in_hand.pop_all()
+        item.done.add_done_callback(lambda done: heard.close())
+        return item.done
+
+    def _may_be_kept(self, call: Call, key: str) -> bool:
+        """Whether the key of a client that is known may have a reply."""
+        session = EVERYBODY_SESSION if call.is_once else self.sessions.known(call.client)
+        if session is not None and self.keys.may_have(session, key):
+            return True
+        return not call.is_once and self.find_change(call.client, key) is not None
 
     async def meet(self, client: str) -> None:
         """Looks up the session of a client that wasn't heard for long."""
@@ -115,7 +138,7 @@ class Term(ABC):
             if number is not None:
                 self.sessions.remember(client, number)
 
-    def _leave(self, slot: tuple[str | None, str], done: asyncio.Task[Kept]) -> None:
+    def _leave(self, slot: tuple[str | None, str], done: asyncio.Future[Kept]) -> None:
         self._under_way.pop(slot, None)
         if not done.cancelled():
             done.exception()
