@@ -1,10 +1,11 @@
 #!/usr/bin/python3
 """Counts what an operation of the service costs: parses, thread hops, writes, commits, syncs, and seconds of its process.
 
-    benches/write_counts.py [--clients 1,8,64] [--jobs 400] [--batchctl PROGRAM] [--service DIR]
+    benches/write_counts.py [--clients 1,8,64] [--jobs 400] [--starts] [--batchctl PROGRAM] [--service DIR]
 
-One job execution is a start, a claim, a checkpoint and a finish, each with a request key. Counts hardly depend on what else the
-machine does, and seconds do. `--service` is the folder `service` of another checkout, to compare with.
+One job execution is a start, a claim, a checkpoint and a finish, each with a request key; with `--starts` it is four starts.
+Counts hardly depend on what else the machine does, and seconds do. `--service` is the folder `service` of another checkout, to
+compare with.
 """
 
 from __future__ import annotations
@@ -19,7 +20,7 @@ import sys
 import tempfile
 import time
 import uuid
-from collections.abc import Iterator
+from collections.abc import Awaitable, Callable, Iterator
 from contextlib import contextmanager
 from pathlib import Path
 
@@ -36,7 +37,8 @@ CHUNK = {"item-count": 100, "reader": {"ref": "rows"}, "writer": {"ref": "table"
 CATALOGUE = {"jobs": [{"id": "copy", "elements": [{"kind": "step", "id": "copy", "chunk": CHUNK}]}]}
 METRICS = {"READ_COUNT": 100, "WRITE_COUNT": 100, "COMMIT_COUNT": 1}
 COUNTED = Path(__file__).resolve().with_name("counted_service.py")
-TICKS = os.sysconf("SC_CLK_TCK")
+# Lets a client run so many job executions.
+RunSome = Callable[[LeanClient, int], Awaitable[None]]
 
 
 class Counted:
@@ -69,6 +71,11 @@ class Counted:
         self._process.wait(30)
 
 
+async def run_starts(client: LeanClient, count: int) -> None:
+    for _ in range(4 * count):
+        await client.ask("POST", "/batch/jobinstances", {"jobName": "copy", "jobParameters": {"night": uuid.uuid4().hex}})
+
+
 async def run_jobs(client: LeanClient, count: int) -> None:
     for _ in range(count):
         body = {"jobName": "copy", "jobParameters": {"night": uuid.uuid4().hex}}
@@ -78,16 +85,16 @@ async def run_jobs(client: LeanClient, count: int) -> None:
         await client.ask("PUT", f"/batch/work/{work}?action=finish", {"outcome": "COMPLETED"})
 
 
-async def measure(port: int, service: Counted, clients: int, jobs: int) -> dict[str, float]:
+async def measure(port: int, service: Counted, clients: int, jobs: int, run_some: RunSome) -> dict[str, float]:
     """The counts an operation, of so many clients that run so many job executions in all."""
     lean = [LeanClient(port, f"client-{clients}-{number}") for number in range(clients)]
     for one in lean:
         await one.open()
-    await asyncio.gather(*(run_jobs(one, 2) for one in lean))
+    await asyncio.gather(*(run_some(one, 2) for one in lean))
     await asyncio.sleep(0.5)
     each = max(1, jobs // clients)
     before = service.counts()
-    await asyncio.gather(*(run_jobs(one, each) for one in lean))
+    await asyncio.gather(*(run_some(one, each) for one in lean))
     await asyncio.sleep(0.5)
     after = service.counts()
     for one in lean:
@@ -136,7 +143,7 @@ async def run(given: argparse.Namespace, folder: Path, server: PostgresServer) -
         with counted(folder, words, given.batchctl, code_of(given.service)) as (port, service):
             await until_ready(port)
             for clients in map(int, given.clients.split(",")):
-                told = await measure(port, service, clients, given.jobs)
+                told = await measure(port, service, clients, given.jobs, run_starts if given.starts else run_jobs)
                 shown = ", ".join(f"{name} {value:.3g}" for name, value in sorted(told.items()))
                 print(f"{kind}, {clients} clients, an operation: {shown}", flush=True)
 
@@ -145,6 +152,7 @@ def main() -> int:
     parser = argparse.ArgumentParser(description=(__doc__ or "").splitlines()[0])
     parser.add_argument("--clients", default="1,8,64")
     parser.add_argument("--jobs", type=int, default=400)
+    parser.add_argument("--starts", action="store_true")
     parser.add_argument("--batchctl", default=None)
     parser.add_argument("--service", type=Path, default=SERVICE)
     given = parser.parse_args()

@@ -12,6 +12,7 @@ export JOBHOST_BATCHCTL
 python=/usr/bin/python3
 figures="../benches/service_calls.py ../benches/waiting_slots.py ../benches/console_lists.py ../benches/console_tabs.py"
 figures="$figures ../benches/sql_repository.py ../benches/kept_nights.py ../benches/fleet.py ../benches/verify_chain.py"
+figures="$figures ../benches/write_counts.py ../benches/counted_service.py ../benches/lean_client.py"
 # shellcheck disable=SC2086
 $python -m flake8 . $figures
 # shellcheck disable=SC2086

@@ -33,18 +33,24 @@ class Filter:
         self._last = bits - 1
         self.room = bits // BITS_A_KEY
 
-    def _places(self, session: int, key: str) -> list[int]:
-        first = hash((session, key))
-        step = (first >> 32) | 1
-        return [(first + step * turn) & self._last for turn in range(BITS_SET)]
-
     def add(self, session: int, key: str) -> None:
         self.room -= 1
-        for place in self._places(session, key):
-            self._bits[place >> 3] |= 1 << (place & 7)
+        bits, last, at = self._bits, self._last, hash((session, key))
+        step = (at >> 32) | 1
+        for _ in range(BITS_SET):
+            place = at & last
+            bits[place >> 3] |= 1 << (place & 7)
+            at += step
 
     def has(self, session: int, key: str) -> bool:
-        return all(self._bits[place >> 3] & 1 << (place & 7) for place in self._places(session, key))
+        bits, last, at = self._bits, self._last, hash((session, key))
+        step = (at >> 32) | 1
+        for _ in range(BITS_SET):
+            place = at & last
+            if not bits[place >> 3] & 1 << (place & 7):
+                return False
+            at += step
+        return True
 
 
 class KnownKeys:
