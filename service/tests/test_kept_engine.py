@@ -145,6 +145,8 @@ async def test_a_call_is_told_why_the_term_has_failed(settings: Make) -> None:
             return False
 
         term._store.request = ask_and_lose
+        # As if the keys of the store weren't read yet.
+        term.keys.is_whole = False
         starting = asyncio.create_task(caller.start(key="a"))
         await is_asked.wait()
         term._store.commit = fenced
