@@ -2,6 +2,8 @@
 
 from __future__ import annotations
 
+from typing import Any
+
 from instances import Caller, Instance, until
 
 from job_host.service.history.engine import Engine
@@ -10,6 +12,12 @@ from job_host.service.history.engine import Engine
 def engine_of(instance: Instance) -> Engine:
     assert instance.service.keeper.engine is not None
     return instance.service.keeper.engine
+
+
+async def until_noted(instance: Instance) -> None:
+    """Returns after all that was answered is noted in the file beside the log."""
+    keeper: Any = instance.service.keeper
+    await keeper._beside.do(lambda store: None)
 
 
 async def executions(caller: Caller, words: str = "") -> list[int]:

@@ -14,7 +14,7 @@ from typing import Any
 import pytest
 from based import behind, compact
 from instances import Caller, Instance, running
-from kept import engine_of
+from kept import engine_of, until_noted
 
 from job_host.service.history import log_file
 from job_host.service.keepers.embedded import LOG_NAME
@@ -102,6 +102,7 @@ async def test_a_file_from_before_the_base_is_refused(compacting: Make, tmp_path
         caller = Caller(instance.url, "one")
         await caller.start("short", key="first")
         await caller.claim()
+        await until_noted(instance)
         copy_store(made, copy)
         await caller.start("short", key="lost")
         await compact(instance)

@@ -14,7 +14,7 @@ from typing import Any, cast
 
 import pytest
 from instances import Caller, Instance, running, until
-from kept import engine_of, executions, make_some, until_epoch
+from kept import engine_of, executions, make_some, until_epoch, until_noted
 
 from job_host.service.history import log_file
 from job_host.service.history.coprocess import CoProcess
@@ -64,6 +64,7 @@ async def test_after_a_kill_nothing_is_entered_again(
         assert await executions(one, "?search=day-wide") == [3] and await executions(one, "?status=FAILED") == [2]
         assert (await one.finish(3)).name == "NotClaimer" and (await two.finish(3)).status == 200
         assert (await Caller(instance.url, "three").start("short")).operations == 12
+        await until_noted(instance)
         assert len(engine_of(instance).recent) == 1
         await kill_batchctl(instance)
         assert await executions(one) == [5, 4, 3, 2] and engine_of(instance).entered == 12
@@ -134,6 +135,7 @@ async def test_a_key_whose_reply_was_heard_and_not_kept(embedded: Make, entered:
     async with running(embedded()) as instance:
         caller = Caller(instance.url, "one")
         await make_some(instance.url)
+        await until_noted(instance)
         entered.clear()
         claimed = await lose_note(instance, lambda one: one.claim(key="a"))
         started = await lose_note(instance, lambda one: one.start("nightly", key="b"))
@@ -142,6 +144,41 @@ async def test_a_key_whose_reply_was_heard_and_not_kept(embedded: Make, entered:
         assert ([answer.operations for answer in again], len(entered)) == ([11, 12], 2)
         assert (again[0].told["work"]["work"], again[0].told["jobName"], again[1].told["executionId"]) == (4, "wide", 5)
         assert (await caller.change(9, "stop", key="c")).name == "NoSuchJobExecutionException"
+
+
+async def test_what_is_not_noted_as_batchctl_dies_is_noted_then(
+    embedded: Make, monkeypatch: pytest.MonkeyPatch, entered: list[Any]
+) -> None:
+    monkeypatch.setattr("job_host.service.keepers.embedded_term.NOTE_SECONDS", 3_600.0)
+    async with running(embedded()) as instance:
+        caller = Caller(instance.url, "one")
+        await make_some(instance.url)
+        await until_noted(instance)
+        entered.clear()
+        for key in "abc":
+            await caller.start("short", key=key)
+        await kill_batchctl(instance)
+        assert [(await caller.start("short", key=key)).operations for key in "abc"] == [11, 12, 13]
+        assert len(entered) == 3
+
+
+async def test_notes_that_fail_are_made_again_without_a_replay(
+    embedded: Make, monkeypatch: pytest.MonkeyPatch, entered: list[Any]
+) -> None:
+    """What the engine has entered is known until it is noted."""
+    monkeypatch.setattr("job_host.service.keepers.embedded_term.NOTE_SECONDS", 0.5)
+    async with running(embedded()) as instance:
+        await make_some(instance.url)
+        await until_noted(instance)
+        entered.clear()
+
+        async def start_some(one: Caller) -> Any:
+            return [await one.start("short", key=key) for key in "abc"][-1]
+
+        assert await lose_note(instance, start_some) == 201
+        caller = Caller(instance.url, "one")
+        assert [(await caller.start("short", key=key)).operations for key in "abc"] == [11, 12, 13]
+        assert len(entered) == 3
 
 
 async def test_an_open_key_that_the_engine_does_not_know_is_looked_up(embedded: Make, monkeypatch: pytest.MonkeyPatch) -> None:
@@ -153,6 +190,7 @@ async def test_an_open_key_that_the_engine_does_not_know_is_looked_up(embedded: 
         await caller.start("short", key="old")
         await make_some(instance.url)
         await until_state(engine_of(instance))
+        await until_noted(instance)
         with closing(sqlite3.connect(made.data / STORE_NAME)) as store:
             store.execute("update request set reply = null, answers = null, seen = null where key = 'old'")
             store.commit()
@@ -170,6 +208,7 @@ async def test_an_older_file_beside_the_log_learns_what_it_lacks(embedded: Make,
         await caller.start("short", key="old")
         await make_some(instance.url)
         await until_state(engine_of(instance))
+        await until_noted(instance)
         with closing(sqlite3.connect(made.data / STORE_NAME)) as store:
             store.execute("delete from request where key = 'old'")
             store.execute("delete from noted")

@@ -296,11 +296,13 @@ class EmbeddedKeeper(Keeper):
             await self._note_rest(beside, term)
 
     async def _note_rest(self, beside: Beside, term: EmbeddedTerm) -> None:
-        """Notes how the log stands, if all of it is kept, so that it is known again if somebody else compacts it."""
+        """Notes what isn't noted yet, and how the log stands if all of it is kept: so it is known again if somebody else
+        compacts it."""
         engine = term.engine
-        if engine.is_whole and term.committed == engine.entered:
-            rest = rest_of(engine)
-            with suppress(Problem):
+        with suppress(Problem):
+            await beside.do(lambda store: None)
+            if engine.is_whole and term.committed == engine.entered:
+                rest = rest_of(engine)
                 await beside.do(lambda store: store.note_rest(rest))
 
     def _begin_changes(self, term: EmbeddedTerm) -> None:

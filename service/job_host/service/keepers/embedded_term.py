@@ -76,9 +76,14 @@ class EmbeddedTerm(Term):
         self._noted_sessions = set(self.sessions.numbers())
         self._named_sessions = {SERVICE_SESSION}
         self._unnoted: list[Item] = []
+        self._last_noted = self.engine.entered
         self._noting: asyncio.Future[None] | None = None
         self._note_timer: asyncio.TimerHandle | None = None
         beside.note = self._hand_notes
+
+    @property
+    def noted(self) -> int:
+        return self._last_noted
 
     async def keys_behind(self, last: KeptKey | None, most: int) -> Sequence[KeptKey]:
         return await self._beside.do(lambda store: store.keys_behind(last, most))
@@ -138,14 +143,19 @@ class EmbeddedTerm(Term):
         if not notes.is_empty:
             self._noted_sessions.update(notes.clients.values())
             self._noting = self._beside.hand(lambda store: store.note(notes))
-            self._noting.add_done_callback(self._note_fault)
+            self._noting.add_done_callback(partial(self._note_end, notes.last))
         return self._noting
 
-    def _note_fault(self, noting: asyncio.Future[None]) -> None:
-        """A file that takes no notes ends the term: the next one reads them out of the log."""
-        fault = None if noting.cancelled() else noting.exception()
+    def _note_end(self, last: Noted | None, noting: asyncio.Future[None]) -> None:
+        """Notes were kept. If they weren't, the term ends: the next one reads them out of the log."""
+        if noting.cancelled():
+            return
+        fault = noting.exception()
         if fault is not None:
             self.fail(store_lost(fault))
+        elif last is not None:
+            self._last_noted = max(self._last_noted, last.operations)
+            self.engine.note_kept(self._last_noted)
 
     async def _chain(self, items: Sequence[Item]) -> None:
         """Chains what the log has up to the last operation, if operations are chained."""

@@ -27,6 +27,15 @@ def answer_of(reply: bytes, seen: int | None = None) -> dict[str, Any]:
     return told
 
 
+def told_by(kept: Kept) -> dict[str, Any]:
+    """What a kept reply says. Raises the refusal's problem."""
+    told = kept.told()
+    problem = of_refusal(told, kept.seen)
+    if problem is not None:
+        raise problem
+    return told
+
+
 async def start_instance(asked: Asked) -> web.StreamResponse:
     body = await asked.body()
     expect_members(body, "jobName", "jobXMLName", "jobParameters")
@@ -49,7 +58,7 @@ async def to_start(asked: Asked, members: Members) -> Members:
 
 
 def begun(asked: Asked, kept: Kept, status: int) -> web.StreamResponse:
-    told = answer_of(kept.reply, kept.seen)
+    told = told_by(kept)
     return asked.answer(views.begun(told["execution"], asked.keeper.names.told(read(kept.answers[0]))), kept.seen, status)
 
 
@@ -78,7 +87,7 @@ async def show_instance_of(asked: Asked) -> web.StreamResponse:
 async def purge_instance(asked: Asked) -> web.StreamResponse:
     members = {"instance": asked.path_number()}
     kept = await asked.host.purge(asked.call("purge", members, fingerprint("purge", members)))
-    answer_of(kept.reply, kept.seen)
+    told_by(kept)
     return asked.answer({**members, "purged": True}, kept.seen)
 
 
@@ -151,7 +160,7 @@ async def change_execution(asked: Asked) -> web.StreamResponse:
         return begun(asked, await asked.keeper.submit(call), 200)
     expect_members(await asked.body())
     kept = await asked.keeper.submit(asked.call(action, members, fingerprint(action, members)))
-    answer_of(kept.reply, kept.seen)
+    told_by(kept)
     return asked.answer({"executionId": execution, "action": action}, kept.seen)
 
 

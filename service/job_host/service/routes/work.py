@@ -18,7 +18,7 @@ from job_host.service.keepers.keeper import HeldPage
 from job_host.service.keepers.workers import Worker, is_draining, workers_page
 from job_host.service.problems import Problem, bad_request
 from job_host.service.routes import views
-from job_host.service.routes.jobs import answer_of
+from job_host.service.routes.jobs import told_by
 from job_host.service.terms.calls import Kept
 from job_host.service.versions.book import FileNotKept
 
@@ -59,7 +59,7 @@ def artifacts_of(names: Any) -> list[str]:
 
 
 def claimed(asked: Asked, kept: Kept) -> web.StreamResponse:
-    told = answer_of(kept.reply, kept.seen)
+    told = told_by(kept)
     if "work" in told:
         instance = read(kept.answers[0])
         told = views.work_item(told["work"], asked.keeper.names.told(instance), read(kept.answers[1]))
@@ -194,7 +194,7 @@ async def reported(asked: Asked, report: Report, body: dict[str, Any]) -> tuple[
         asked.named_client()
     call = asked.keyed_call(report.key(), action, members, fingerprint(action, members), log=log)
     kept = await asked.keeper.submit(call)
-    told = answer_of(kept.reply, kept.seen)
+    told = told_by(kept)
     if action == "checkpoint":
         asked.keeper.leases.renew(work)
     return told, kept.seen

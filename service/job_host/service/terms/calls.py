@@ -94,14 +94,19 @@ class LogPage:
 
 @dataclass(frozen=True)
 class Kept:
-    """The first reply to a call, the answers that belong to it, and how many operations it saw."""
+    """The first reply to a call, the answers that belong to it, and how many operations it saw.
+
+    Whoever has read the reply before gives what it says.
+    """
 
     reply: bytes
     answers: tuple[bytes, ...]
     seen: int
+    is_read: dict[str, Any] | None = field(default=None, compare=False, repr=False)
 
     def told(self) -> dict[str, Any]:
-        return read(self.reply)
+        """What the reply says. It isn't changed."""
+        return read(self.reply) if self.is_read is None else self.is_read
 
 
 def answers_text(answers: Sequence[bytes]) -> str:
@@ -145,6 +150,8 @@ class Item:
     seen: int = 0
     answers: tuple[bytes, ...] = ()
     is_ready: bool = False
+    # What the reply says, if the engine has read it.
+    told: dict[str, Any] | None = None
     # The job execution whose answers were asked for with the line, before its reply was heard.
     asked_ahead: int | None = None
     log: WorkLog | None = None
@@ -173,7 +180,7 @@ class Item:
         return Audited(self.number, self.did, Origin.of(self.call.client, self.call.address))
 
     def kept(self) -> Kept:
-        return Kept(self.reply, self.answers, self.seen)
+        return Kept(self.reply, self.answers, self.seen, self.told)
 
     def end(self) -> None:
         if not self.done.done():

@@ -295,7 +295,9 @@ class Term(ABC):
                 self.workers.note_sign(item.call.client)
         if not item.heard.done():
             item.heard.set_result(reply)
-        execution = None if number is None else execution_of(item.call.do, self.engine.told)
+        if number is not None and self.engine.told:
+            item.told = self.engine.told
+        execution = None if item.told is None else execution_of(item.call.do, item.told)
         if execution is None:
             self._make_ready(item)
         elif execution != item.asked_ahead:
@@ -371,10 +373,15 @@ class Term(ABC):
         await self.keep(items)
         self.observers.commit(time.monotonic() - begun, len(items))
         self.committed = max([self.committed, *(item.number for item in items if item.number is not None)])
-        self.engine.note_kept(self.committed)
+        self.engine.note_kept(self.noted)
         for item in items:
             item.end()
         self._tell_readers()
+
+    @property
+    def noted(self) -> int:
+        """Operations up to this one are known to whoever goes on with the engine, however the term ends."""
+        return self.committed
 
     def _tell_readers(self) -> None:
         waiting = self._readers
