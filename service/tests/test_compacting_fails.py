@@ -3,6 +3,7 @@
 from __future__ import annotations
 
 import asyncio
+import sqlite3
 import time
 from collections.abc import Callable
 from dataclasses import replace
@@ -18,10 +19,12 @@ from kept import engine_of, until_epoch
 from job_host.service.history import log_file
 from job_host.service.history.coprocess import CoProcessEnded
 from job_host.service.keepers import compacting as module
-from job_host.service.keepers import due
+from job_host.service.keepers import due, embedded_term
 from job_host.service.keepers.embedded import LOG_NAME, EmbeddedKeeper
 from job_host.service.keepers.keeper import Fatal
+from job_host.service.problems import Problem
 from job_host.service.settings import ServeSettings
+from job_host.service.stores.sqlite import Notes, SqliteStore
 from job_host.service.terms.leases import Leases
 
 Make = Callable[..., ServeSettings]
@@ -150,6 +153,32 @@ async def test_a_compacted_log_of_another_state_ends_the_service(stand_in: Make,
             for _ in range(2):
                 await Caller(instance.url).start("short")
             await instance.ended()
+
+
+async def test_a_log_whose_keys_could_not_be_noted_is_not_compacted(stand_in: Make, monkeypatch: pytest.MonkeyPatch) -> None:
+    """What is noted behind the replies fails just as the log is to be compacted: it would forget the keys."""
+    made = stand_in()
+    monkeypatch.setattr(embedded_term, "NOTE_SECONDS", 3_600.0)
+    note, has_failed = SqliteStore.note, False
+
+    def fail_once(store: SqliteStore, notes: Notes) -> None:
+        nonlocal has_failed
+        if not has_failed and notes.requests:
+            has_failed = True
+            raise sqlite3.OperationalError("disk I/O error")
+        note(store, notes)
+
+    async with running(made) as instance:
+        caller = Caller(instance.url, "one")
+        monkeypatch.setattr(SqliteStore, "note", fail_once)
+        assert (await caller.start("short", key="a")).told["executionId"] == 1
+        with pytest.raises(Problem, match="disk I/O error"):
+            await compact(instance)
+        assert has_failed and log_file.known_base(made.data / LOG_NAME) is None
+        await until_epoch(instance, 2)
+        assert (await caller.start("short", key="a")).told["executionId"] == 1
+        assert (await compact(instance)).failure == ""
+        assert (await caller.start("short", key="a")).told["executionId"] == 1
 
 
 @pytest.mark.parametrize("word", ["die-before", "die-after"])

@@ -132,6 +132,9 @@ class Compacting:
         if engine.is_compact and leavers is None:
             return ""
         await note_all(engine, beside)
+        # What was to be noted behind the replies may have failed.
+        if term.failure is not None:
+            raise term.failure
         catalogue = engine.process.catalogue if leavers is None else leavers.line
         failure = ""
 
