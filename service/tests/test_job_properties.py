@@ -7,7 +7,8 @@ import random
 import string
 import time
 from pathlib import Path
-from typing import Any
+from types import SimpleNamespace
+from typing import Any, cast
 
 import pytest
 
@@ -355,7 +356,7 @@ def test_no_property_of_another_work_item_is_found(monkeypatch: pytest.MonkeyPat
 async def test_only_system_properties_that_are_named_are_told(tmp_path: Path, monkeypatch: pytest.MonkeyPatch) -> None:
     monkeypatch.setenv("home", "/home/x")
     monkeypatch.setenv("SECRET", "secret")
-    worker = Worker(None, tmp_path, 1, ["home", "none"])  # type: ignore[arg-type]
+    worker = Worker(cast(Any, SimpleNamespace(operate=None)), tmp_path, 1, ["home", "none"])
     claimed = {"properties": {"batchlet": {n: one(f"<#{{systemProperties['{n}']}}>") for n in ("home", "none", "SECRET")}}}
     worker._complete(claimed)
     assert claimed == {"properties": {"batchlet": {"home": "</home/x>", "none": "<>", "SECRET": "<>"}}}
