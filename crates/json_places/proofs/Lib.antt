@@ -1,0 +1,5 @@
+pub mod Scanning
+pub mod Taken
+pub mod Nodes
+pub mod Found
+pub mod Counted

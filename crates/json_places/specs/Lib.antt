@@ -1,0 +1,4 @@
+pub mod Starts
+pub mod Inside
+pub mod Scan
+pub mod Walk
