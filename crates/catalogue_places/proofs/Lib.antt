@@ -1,3 +1,4 @@
 pub mod Agreeing
 pub mod Laws
 pub mod Reaching
+pub mod Linked

@@ -1,3 +1,4 @@
 pub mod Names
 pub mod Flaws
 pub mod Paths
+pub mod Places

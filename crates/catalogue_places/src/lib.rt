@@ -5,6 +5,7 @@ mod elements;
 mod flaws;
 mod member;
 mod objects;
+mod place;
 mod readings;
 mod search;
 
@@ -12,4 +13,5 @@ pub use elements::element_spot;
 pub use flaws::{Flaw, Inside, Spot};
 pub use member::Member;
 pub use objects::{catalogue_flaw, job_flaw, split_flow_flaw};
+pub use place::byte_in;
 pub use search::{ElementFlaw, flaw_of_elements};
