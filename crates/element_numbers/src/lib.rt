@@ -1,0 +1,6 @@
+//! The elements of a job by their numbers.
+#![tactic(auto)]
+
+mod numbering;
+
+pub use numbering::{Found, Numbered, element_of_number};
