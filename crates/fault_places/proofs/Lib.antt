@@ -1,0 +1,3 @@
+pub mod Flawed
+pub mod Sited
+pub mod Placing

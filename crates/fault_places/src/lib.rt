@@ -1,0 +1,7 @@
+//! The place of a fault in the text of a catalogue: the byte and the member.
+#![tactic(auto)]
+
+mod place;
+mod site;
+
+pub use place::{Place, place_of};

@@ -1,0 +1,184 @@
+// The site of a fault: the steps to the value that is wrong, or to the object that lacks a member.
+ghost use Rattle.std.specs.Prelude.{◌≡◌, ◌++◌, ◌∷◌, [], map, option_map, option_and_then, IfOk};
+ghost use Rattle.serde_json.specs.View.{view};
+ghost use Rattle.catalogue_places.specs.Flaws.{job_flaw};
+ghost use Rattle.element_numbers.specs.Numbering.{nth, key_of};
+ghost use Rattle.fault_places.specs.Sites.{spot_of, to_member, site_of, path_inside, job_of, job_path, element_of, element_path, element_site, site_in};
+ghost use Rattle.fault_places.specs.SiteViews.{keys_of, site_view, Few, FewIn};
+
+use batch_ids::OutOfMemory;
+use catalogue_places::{
+    Flaw, Inside, Member, Spot, catalogue_flaw, element_spot, job_flaw, split_flow_flaw,
+};
+use element_numbers::{Numbered, element_of_number};
+use jsl_json::ReadFault;
+use json_members::list_at;
+use json_places::Step;
+use serde_json::Value;
+use std::alloc::Global;
+
+/// The value that is wrong, or the object that lacks a member.
+#[derive(Drop)]
+pub struct Site {
+    /// The steps to it from the root.
+    pub path: Vec<Step>,
+    /// The member that it lacks.
+    pub lacks: Option<Member>,
+}
+
+fn with_member(alloc: Global, path: Vec<Step>, member: Member) -> Result<Vec<Step>, OutOfMemory>
+    ensures { IfOk result (λ longer. keys_of longer ≡ keys_of path ++ to_member member ∷ []) }
+{
+    let name = String::from_str(alloc, member.name())?;
+    let mut longer = path;
+    longer.push(Step::Member(name))?;
+    Ok(longer)
+}
+
+fn with_item(path: Vec<Step>, number: u64) -> Result<Vec<Step>, OutOfMemory>
+    ensures { IfOk result (λ longer. keys_of longer ≡ keys_of path ++ nth number ∷ []) }
+{
+    let mut longer = path;
+    longer.push(Step::Item(number as usize))?;
+    Ok(longer)
+}
+
+fn site_of(alloc: Global, path: Vec<Step>, flaw: Flaw) -> Result<Site, OutOfMemory>
+    ensures { IfOk result (λ site. site_view site ≡ site_of (keys_of path) flaw) }
+{
+    match flaw {
+        Flaw::NoObject => Ok(Site { path, lacks: None }),
+        Flaw::Unlisted => Ok(Site { path, lacks: None }),
+        Flaw::Missing(member) => Ok(Site {
+            path,
+            lacks: Some(member),
+        }),
+        Flaw::Wrong(member) => {
+            let path = with_member(alloc, path, member)?;
+            Ok(Site { path, lacks: None })
+        }
+        Flaw::NotOneTask => Ok(Site { path, lacks: None }),
+    }
+}
+
+/// Adds the steps from an element to the object inside it that has the flaw.
+fn with_inside(alloc: Global, path: Vec<Step>, inside: Inside) -> Result<Vec<Step>, OutOfMemory>
+    ensures { IfOk result (λ longer. keys_of longer ≡ keys_of path ++ path_inside inside) }
+{
+    match inside {
+        Inside::Own => Ok(path),
+        Inside::In(member) => with_member(alloc, path, member),
+        Inside::InChunk(member) => {
+            let chunk = with_member(alloc, path, Member::Chunk)?;
+            with_member(alloc, chunk, member)
+        }
+        Inside::Transition(number) => {
+            let list = with_member(alloc, path, Member::Transitions)?;
+            with_item(list, number)
+        }
+    }
+}
+
+fn job_of(value: &Value, job: u64) -> Option<&Value>
+    ensures { option_map (λ found. view found.now) result ≡ job_of job (view value.now) }
+{
+    let jobs = list_at(value, "jobs")?;
+    if job as usize >= jobs.len() {
+        return None;
+    }
+    Some(&jobs[job as usize])
+}
+
+fn job_path(alloc: Global, job: u64) -> Result<Vec<Step>, OutOfMemory>
+    ensures { IfOk result (λ path. keys_of path ≡ job_path job) }
+{
+    let jobs = with_member(alloc, Vec::new(alloc), Member::Jobs)?;
+    with_item(jobs, job)
+}
+
+/// Makes the path to an element from the root, of the path from the list of its job's elements.
+fn element_path(alloc: Global, job: u64, inner: Vec<Step>) -> Result<Vec<Step>, OutOfMemory>
+    ensures { IfOk result (λ path. keys_of path
+        ≡ job_path job ++ to_member Member.Elements ∷ keys_of inner) }
+{
+    let job = job_path(alloc, job)?;
+    let mut path = with_member(alloc, job, Member::Elements)?;
+    let mut rest = inner;
+    path.append(&mut rest)?;
+    Ok(path)
+}
+
+fn spot_of(numbered: Numbered<'_>) -> Option<Spot>
+    ensures { result ≡ spot_of numbered.entry.in_split (view numbered.entry.value.now) }
+{
+    if !numbered.in_split {
+        return element_spot(numbered.value);
+    }
+    match split_flow_flaw(numbered.value) {
+        Some(flaw) => Some(Spot {
+            inside: Inside::Own,
+            flaw,
+        }),
+        None => None,
+    }
+}
+
+fn job_site(alloc: Global, job: u64, value: &Value) -> Result<Option<Site>, OutOfMemory>
+    ensures { IfOk result (λ site. option_map site_view site
+        ≡ option_map (site_of (job_path job)) (job_flaw (view value.now))) }
+{
+    match job_flaw(value) {
+        Some(flaw) => {
+            let path = job_path(alloc, job)?;
+            Ok(Some(site_of(alloc, path, flaw)?))
+        }
+        None => Ok(None),
+    }
+}
+
+/// Returns the site of the flaw of an element of a job.
+fn element_site(
+    alloc: Global,
+    job: u64,
+    value: &Value,
+    element: u64,
+) -> Result<Option<Site>, OutOfMemory>
+    ensures site { IfOk result (λ site. option_map site_view site
+        ≡ option_and_then (element_site job) (element_of element (view value.now))) }
+    ensures few { IfOk result (λ site. FewIn (view value.now)) }
+{
+    let Some(elements) = list_at(value, "elements") else {
+        return Ok(None);
+    };
+    let Some(found) = element_of_number(alloc, elements, element as usize)? else {
+        return Ok(None);
+    };
+    let Some(spot) = spot_of(found.numbered) else {
+        return Ok(None);
+    };
+    let path = element_path(alloc, job, found.path)?;
+    let path = with_inside(alloc, path, spot.inside)?;
+    Ok(Some(site_of(alloc, path, spot.flaw)?))
+}
+
+/// Returns the site of a fault in a catalogue's value.
+pub fn site_in(alloc: Global, value: &Value, fault: ReadFault) -> Result<Option<Site>, OutOfMemory>
+    ensures site { IfOk result (λ site. option_map site_view site
+        ≡ site_in fault (view value.now)) }
+    ensures few { IfOk result (λ site. Few fault (view value.now)) }
+{
+    match fault {
+        ReadFault::NotACatalogue => match catalogue_flaw(value) {
+            Some(flaw) => Ok(Some(site_of(alloc, Vec::new(alloc), flaw)?)),
+            None => Ok(None),
+        },
+        ReadFault::BadElement { job, element } => match (job_of(value, job), element) {
+            (Some(found), None) => job_site(alloc, job, found),
+            (Some(found), Some(element)) => element_site(alloc, job, found, element),
+            (None, _) => Ok(None),
+        },
+        ReadFault::NotJson => Ok(None),
+        ReadFault::InJob { .. } => Ok(None),
+        ReadFault::OutOfMemory => Ok(None),
+    }
+}
