@@ -39,9 +39,6 @@ given_by text d slice path found there same is given placed e leads =
     let here : IsPlaced text slice e found = placed d e given (ap (λ (p : List Step). data_at p d) same ∙ leads) in
     subst (IsPlaced text path e) is (subst (λ (p : List Step). IsPlaced text p e found) same here)
 
-pub no_site : (text : List ℕ) (d : Data) (o : Option Site) → None ≡ o → IsPlaceOf text d o None
-no_site text d o is = subst (λ s. IsPlaceOf text d s None) is refl
-
 leads_to : (fault : ReadFault) (d : Data) (site : Site) → Some site ≡ site_in fault d → Leads d site
 leads_to fault d site is = subst (Each (Leads d)) (sym is) (site_leads fault d)
 

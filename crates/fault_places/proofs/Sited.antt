@@ -8,6 +8,7 @@ use Rattle.serde_json.specs.Read.{read}
 use Rattle.json_members.specs.Members.{data_of, has_only, text_at, list_at}
 use Rattle.jsl_model.specs.declared.element.Element.{Element}
 use Rattle.jsl_model.specs.declared.job.JobFault.{JobFault}
+use Rattle.jsl_model.specs.declared.job.JobFault.TheVariants.{TextTooLong, Empty, TooDeep, TooMany, DuplicateId, NoSuchTarget, Loop, RestartNotJobLevel, OutOfMemory as NoMemory}
 use Rattle.jsl_model.specs.Jobs.{JobTree}
 use Rattle.jsl_model.specs.Faults.{job_fault}
 use Rattle.jsl_json.specs.declared.fault.ReadFault.{ReadFault}
@@ -24,7 +25,7 @@ use Rattle.catalogue_places.specs.declared.member.Member.TheVariants.{Jobs, Elem
 use Rattle.catalogue_places.specs.Names.{name_of}
 use Rattle.catalogue_places.specs.Flaws.{Agrees, within, catalogue_flaw, job_flaw, split_flow_flaw, element_spot}
 use Rattle.element_numbers.specs.Numbering.{Key, nth, named, value_by, Numbered, OwnWrong, all_in}
-use Rattle.fault_places.specs.Sites.{Site, spot_of, to_member, site_of, path_inside, job_of, job_path, element_of, element_path, element_site, site_in, has_place}
+use Rattle.fault_places.specs.Sites.{Site, spot_of, to_member, site_of, path_inside, job_of, job_path, element_of, element_path, element_site, element_or_job, job_fault_site, job_fault_has_place, site_in, has_place}
 use Rattle.fault_places.specs.SiteViews.{Few}
 use Rattle.catalogue_places.proofs.Laws.{catalogue_agrees, job_agrees, split_flow_agrees, element_agrees}
 use Rattle.element_numbers.proofs.Counting.{Outcome, Wrong, made, last, tested, all_count, number_found}
@@ -86,6 +87,25 @@ element_site_leads n d e leads =
     (λ spot k. site_of_leads (element_path n e ++ path_inside spot.inside) d k.0 spot.flaw (onward (element_path n e) (path_inside spot.inside) d e.value (Some k.0) leads k.1) k.2)
     (spot_in e.in_split e.value)
 
+element_or_job_leads : (n : ℕ) (d job : Data) (o : Option Numbered) → job_of n d ≡ Some job → element_of 1000 job ≡ o → Leads d (element_or_job n o)
+element_or_job_leads n d job None is found = (job, job_leads n d job is)
+element_or_job_leads n d job (Some e) is found = (
+  e.value,
+  onward (job_path n) (to_member Elements ∷ e.path) d job (Some e.value) (job_leads n d job is)
+      (element_from_list 1000 job e (list_at (name_of Elements) job) refl found),
+)
+
+job_fault_leads : (n : ℕ) (d job : Data) (fault : JobFault) → job_of n d ≡ Some job → Each (Leads d) (job_fault_site n fault job)
+job_fault_leads n d job TextTooLong is = tt
+job_fault_leads n d job Empty is = tt
+job_fault_leads n d job TooDeep is = tt
+job_fault_leads n d job TooMany is = element_or_job_leads n d job (element_of 1000 job) is refl
+job_fault_leads n d job DuplicateId is = tt
+job_fault_leads n d job NoSuchTarget is = tt
+job_fault_leads n d job Loop is = tt
+job_fault_leads n d job RestartNotJobLevel is = tt
+job_fault_leads n d job NoMemory is = tt
+
 pub site_leads : (fault : ReadFault) (d : Data) → Each (Leads d) (site_in fault d)
 site_leads NotJson d = tt
 site_leads NotACatalogue d = flawed_object [] d d (catalogue_flaw d) refl (catalogue_flaw_in d)
@@ -98,7 +118,8 @@ site_leads (BadElement n (Some m)) d =
     (λ e found. element_site_leads n d e
     (onward (job_path n) (to_member Elements ∷ e.path) d job (Some e.value) (job_leads n d job is)
     (element_from_list m job e (list_at (name_of Elements) job) refl found))))
-site_leads (InJob n fault) d = tt
+site_leads (InJob n fault) d =
+    each_then (Leads d) (job_fault_site n fault) (job_of n d) (λ job is. job_fault_leads n d job fault is)
 site_leads OutOfMemory d = tt
 
 -- ---- what has no reading has a flaw
@@ -214,6 +235,17 @@ mapped : {A B : Type 0} (f : A → B) (o : Option A) → is_some o ≡ true → 
 mapped f None h = h
 mapped f (Some a) h = refl
 
+job_fault_sited : (n : ℕ) (job : Data) (fault : JobFault) → is_some (job_fault_site n fault job) ≡ job_fault_has_place fault
+job_fault_sited n job TextTooLong = refl
+job_fault_sited n job Empty = refl
+job_fault_sited n job TooDeep = refl
+job_fault_sited n job TooMany = refl
+job_fault_sited n job DuplicateId = refl
+job_fault_sited n job NoSuchTarget = refl
+job_fault_sited n job Loop = refl
+job_fault_sited n job RestartNotJobLevel = refl
+job_fault_sited n job NoMemory = refl
+
 -- a fault of a job has a site, if it has a place
 job_sited : (d job : Data) (n : ℕ) (fault : ReadFault) → Few fault d → job_of n d ≡ Some job → FromJob n job fault → is_some (site_in fault d) ≡ has_place fault
 job_sited d job n fault few is (inl h) =
@@ -237,7 +269,10 @@ job_sited d job n fault few is (inr (inl h)) =
     let from_0 : 0 + found.0 ≡ found.0 = omega arith in
     let number : fault ≡ BadElement n (Some found.0) = found.4 ∙ ap (λ m. BadElement n (Some m)) from_0 in
     subst (λ f. is_some (site_in f d) ≡ has_place f) (sym number) there
-job_sited d job n fault few is (inr (inr h)) = subst (λ f. is_some (site_in f d) ≡ has_place f) (sym h.1) refl
+job_sited d job n fault few is (inr (inr h)) =
+    let there : is_some (site_in (InJob n h.0) d) ≡ has_place (InJob n h.0) =
+    ap (λ (o : Option Data). is_some (option_and_then (job_fault_site n h.0) o)) is ∙ job_fault_sited n job h.0 in
+    subst (λ f. is_some (site_in f d) ≡ has_place f) (sym h.1) there
 
 catalogue_sited : (d : Data) (fault : ReadFault) (o : Option Items) → Few fault d → jobs_of d ≡ o → (or_fault o NotACatalogue >>= λ jobs. with_jobs [] jobs) ≡ Err fault → is_some (site_in fault d) ≡ has_place fault
 catalogue_sited d fault None few is h =

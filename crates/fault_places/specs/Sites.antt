@@ -1,9 +1,11 @@
 -- The site of a fault in a catalogue's data: the path to the value that is wrong, or to the object that lacks a
 -- member. Jobs, and the elements of a job, are counted from 0.
-use Rattle.std.specs.Prelude.{ℕ, List, [], ◌∷◌, ◌++◌, Bool, true, false, codes, slice_get, Option, Some, None, option_map, option_and_then}
+use Rattle.std.specs.Prelude.{ℕ, List, [], ◌∷◌, ◌++◌, Bool, true, false, slice_get, Option, Some, None, option_map, option_and_then}
 use Rattle.serde_json.specs.Data.{Data}
 use Rattle.serde_json.specs.Find.{get_item}
 use Rattle.json_members.specs.Members.{list_at}
+use Rattle.jsl_model.specs.declared.job.JobFault.{JobFault}
+use Rattle.jsl_model.specs.declared.job.JobFault.TheVariants.{TextTooLong, Empty, TooDeep, TooMany, DuplicateId, NoSuchTarget, Loop, RestartNotJobLevel, OutOfMemory as NoMemory}
 use Rattle.jsl_json.specs.declared.fault.ReadFault.{ReadFault}
 use Rattle.jsl_json.specs.declared.fault.ReadFault.TheVariants.{NotJson, NotACatalogue, BadElement, InJob, OutOfMemory}
 use Rattle.catalogue_places.specs.declared.flaws.Flaw.{Flaw}
@@ -64,19 +66,49 @@ abbrev pub element_site : ℕ → Numbered → Option Site
 element_site job element =
     option_map (λ spot. site_of (element_path job element ++ path_inside spot.inside) spot.flaw) (spot_of element.in_split element.value)
 
+-- the site of a job of more than 1,000 elements: the one after the first 1,000. A job that has not so many is itself
+-- one too many for the catalogue
+abbrev pub element_or_job : ℕ → Option Numbered → Site
+element_or_job job None = record { path = job_path job; lacks = None }
+element_or_job job (Some element) = record { path = element_path job element; lacks = None }
+
+-- the site of a fault of a job whose own members, and those of its elements, are right
+abbrev pub job_fault_site : ℕ → JobFault → Data → Option Site
+job_fault_site n TextTooLong job = None
+job_fault_site n Empty job = None
+job_fault_site n TooDeep job = None
+job_fault_site n TooMany job = Some (element_or_job n (element_of 1000 job))
+job_fault_site n DuplicateId job = None
+job_fault_site n NoSuchTarget job = None
+job_fault_site n Loop job = None
+job_fault_site n RestartNotJobLevel job = None
+job_fault_site n NoMemory job = None
+
 -- the site of a fault
 abbrev pub site_in : ReadFault → Data → Option Site
 site_in NotJson d = None
 site_in NotACatalogue d = option_map (site_of []) (catalogue_flaw d)
 site_in (BadElement n None) d = option_and_then (λ job. option_map (site_of (job_path n)) (job_flaw job)) (job_of n d)
 site_in (BadElement n (Some m)) d = option_and_then (λ job. option_and_then (element_site n) (element_of m job)) (job_of n d)
-site_in (InJob n fault) d = None
+site_in (InJob n fault) d = option_and_then (job_fault_site n fault) (job_of n d)
 site_in OutOfMemory d = None
 
--- the faults that have a place: all but a text that is no JSON, what a job breaks as a whole, and want of memory
+-- of the faults that a job has as a whole, too many elements or jobs have a place
+abbrev pub job_fault_has_place : JobFault → Bool
+job_fault_has_place TextTooLong = false
+job_fault_has_place Empty = false
+job_fault_has_place TooDeep = false
+job_fault_has_place TooMany = true
+job_fault_has_place DuplicateId = false
+job_fault_has_place NoSuchTarget = false
+job_fault_has_place Loop = false
+job_fault_has_place RestartNotJobLevel = false
+job_fault_has_place NoMemory = false
+
+-- the faults that have a place
 abbrev pub has_place : ReadFault → Bool
 has_place NotJson = false
 has_place NotACatalogue = true
 has_place (BadElement job element) = true
-has_place (InJob job fault) = false
+has_place (InJob job fault) = job_fault_has_place fault
 has_place OutOfMemory = false

@@ -55,8 +55,9 @@ fn place_in(
 /// Returns the place of a fault in the text of a catalogue: the byte, and the member. `read_catalogue`
 /// of `jsl_json` gives the fault.
 ///
-/// The faults that have a place are `NotACatalogue` and `BadElement`. For the others it returns
-/// `None`.
+/// The faults that have a place are `NotACatalogue`, `BadElement`, and `TooMany` of a job. For the
+/// others it returns `None`. The place of `TooMany` is the element after the first 1,000 of the job.
+/// If the job has not so many, it is the job, which is one too many for the catalogue.
 ///
 /// The time and memory are proportional to the bytes of the text.
 ///

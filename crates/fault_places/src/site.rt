@@ -3,7 +3,7 @@ ghost use Rattle.std.specs.Prelude.{◌≡◌, ◌++◌, ◌∷◌, [], map, opt
 ghost use Rattle.serde_json.specs.View.{view};
 ghost use Rattle.catalogue_places.specs.Flaws.{job_flaw};
 ghost use Rattle.element_numbers.specs.Numbering.{nth, key_of};
-ghost use Rattle.fault_places.specs.Sites.{spot_of, to_member, site_of, path_inside, job_of, job_path, element_of, element_path, element_site, site_in};
+ghost use Rattle.fault_places.specs.Sites.{spot_of, to_member, site_of, path_inside, job_of, job_path, element_of, element_path, element_site, element_or_job, job_fault_site, site_in};
 ghost use Rattle.fault_places.specs.SiteViews.{keys_of, site_view, Few, FewIn};
 
 use batch_ids::OutOfMemory;
@@ -12,6 +12,7 @@ use catalogue_places::{
 };
 use element_numbers::{Numbered, element_of_number};
 use jsl_json::ReadFault;
+use jsl_model::JobFault;
 use json_members::list_at;
 use json_places::Step;
 use serde_json::Value;
@@ -161,6 +162,50 @@ fn element_site(
     Ok(Some(site_of(alloc, path, spot.flaw)?))
 }
 
+/// Returns the site of the element after the first 1,000 of a job, or of the job if it has not so
+/// many.
+fn too_many_site(alloc: Global, job: u64, value: &Value) -> Result<Site, OutOfMemory>
+    ensures { IfOk result (λ site. site_view site
+        ≡ element_or_job job (element_of 1000 (view value.now))) }
+{
+    let Some(elements) = list_at(value, "elements") else {
+        let path = job_path(alloc, job)?;
+        return Ok(Site { path, lacks: None });
+    };
+    match element_of_number(alloc, elements, 1000)? {
+        Some(found) => {
+            let path = element_path(alloc, job, found.path)?;
+            Ok(Site { path, lacks: None })
+        }
+        None => {
+            let path = job_path(alloc, job)?;
+            Ok(Site { path, lacks: None })
+        }
+    }
+}
+
+fn job_fault_site(
+    alloc: Global,
+    job: u64,
+    value: &Value,
+    fault: JobFault,
+) -> Result<Option<Site>, OutOfMemory>
+    ensures { IfOk result (λ site. option_map site_view site
+        ≡ job_fault_site job fault (view value.now)) }
+{
+    match fault {
+        JobFault::TextTooLong => Ok(None),
+        JobFault::Empty => Ok(None),
+        JobFault::TooDeep => Ok(None),
+        JobFault::TooMany => Ok(Some(too_many_site(alloc, job, value)?)),
+        JobFault::DuplicateId => Ok(None),
+        JobFault::NoSuchTarget => Ok(None),
+        JobFault::Loop => Ok(None),
+        JobFault::RestartNotJobLevel => Ok(None),
+        JobFault::OutOfMemory => Ok(None),
+    }
+}
+
 /// Returns the site of a fault in a catalogue's value.
 pub fn site_in(alloc: Global, value: &Value, fault: ReadFault) -> Result<Option<Site>, OutOfMemory>
     ensures site { IfOk result (λ site. option_map site_view site
@@ -178,7 +223,10 @@ pub fn site_in(alloc: Global, value: &Value, fault: ReadFault) -> Result<Option<
             (None, _) => Ok(None),
         },
         ReadFault::NotJson => Ok(None),
-        ReadFault::InJob { .. } => Ok(None),
+        ReadFault::InJob { job, fault } => match job_of(value, job) {
+            Some(found) => job_fault_site(alloc, job, found, fault),
+            None => Ok(None),
+        },
         ReadFault::OutOfMemory => Ok(None),
     }
 }
