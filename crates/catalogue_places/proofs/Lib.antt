@@ -2,3 +2,4 @@ pub mod Agreeing
 pub mod Laws
 pub mod Reaching
 pub mod Linked
+pub mod Unlisted

@@ -1,8 +1,9 @@
 -- What is wrong in an object of a catalogue: its first flaw, if it has one. The rules are the catalogue's own
 -- readings of each object. An object has a flaw exactly if its reading gives nothing.
-use Rattle.std.specs.Prelude.{ℕ, ◌+◌, List, [], ◌∷◌, Bool, true, false, codes, is_some, Option, Some, None, option_map, if◌then◌else◌}
+use Rattle.std.specs.Prelude.{ℕ, ◌+◌, List, [], ◌∷◌, Bool, true, false, not, bytes_eq, codes, position, unwrap_or, is_some, Option, Some, None, option_map, if◌then◌else◌}
+use Rattle.std.specs.List.{list_any}
 use Rattle.std.specs.Option.{option_or}
-use Rattle.serde_json.specs.Data.{Data, Items, no_items, item}
+use Rattle.serde_json.specs.Data.{Data, Items, no_items, item, Members, no_members, member}
 use Rattle.serde_json.specs.Find.{get, as_object}
 use Rattle.json_members.specs.Members.{has_only, is_text, text_at, optional_text, list_at, optional_list, object_at, optional_object}
 use Rattle.jsl_json.specs.Tasks.{truth_or, count_or, item_count_at, partitions_at, chunk_names}
@@ -43,9 +44,23 @@ unless right m d = if right then None else Some (absent_or_wrong m d)
 abbrev pub needs : {A : Type 0} → (List ℕ → Data → Option A) → Member → Data → Option Flaw
 needs reading m d = unless (is_some (reading (name_of m) d)) m d
 
+-- the names of an object's members, in their order
+abbrev pub names_in : Members → List (List ℕ)
+names_in no_members = []
+names_in (member name d ms) = name ∷ names_in ms
+
+-- the number of the first member that is not listed
+abbrev pub first_other : List (List ℕ) → Members → ℕ
+first_other names ms = unwrap_or (position (λ name. not (list_any (bytes_eq name) names)) (names_in ms)) 0
+
+-- the flaw of an object that has other members than these, or of a value that is no object
+abbrev pub not_only : List (List ℕ) → Option Members → Flaw
+not_only names None = NoObject
+not_only names (Some ms) = Unlisted (first_other names ms)
+
 -- the flaw of a value that is no object, or has a member that is not listed
 abbrev pub unlisted : List (List ℕ) → Data → Option Flaw
-unlisted names d = if has_only names d then None else Some (if is_some (as_object d) then Unlisted else NoObject)
+unlisted names d = if has_only names d then None else Some (not_only names (as_object d))
 
 -- the flaw of an object of another kind, or of a value that is no object
 abbrev pub other_kind : Data → Flaw

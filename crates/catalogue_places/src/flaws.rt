@@ -5,8 +5,9 @@ use crate::member::Member;
 pub enum Flaw {
     /// The value is no object.
     NoObject,
-    /// The object has a member that is not listed.
-    Unlisted,
+    /// The object has a member that is not listed: the first one, by its number among the members in
+    /// the order of their names.
+    Unlisted(usize),
     /// The member is missing.
     Missing(Member),
     /// The member is of another kind, or its number is out of bounds.

@@ -1,5 +1,7 @@
 // The flaw of one member, by the catalogue's own reading of it.
-ghost use Rattle.std.specs.Prelude.{◌≡◌, ◌^◌, true, false, map, is_some, if◌then◌else◌, Some, None};
+ghost use Rattle.std.specs.List.{list_any};
+ghost use Rattle.std.specs.BTreeMap.{keys};
+ghost use Rattle.std.specs.Prelude.{◌≡◌, ◌^◌, true, false, not, map, bytes_eq, string_bytes, position, unwrap_or, is_some, if◌then◌else◌, Some, None};
 ghost use Rattle.serde_json.specs.View.{view};
 ghost use Rattle.json_members.specs.Members.{text_at, optional_text, list_at};
 ghost use Rattle.jsl_json.specs.Tasks.{truth_or, count_or, item_count_at, partitions_at};
@@ -8,7 +10,7 @@ ghost use Rattle.catalogue_places.specs.Flaws.{absent_or_wrong, unless, needs, u
 use crate::flaws::Flaw;
 use crate::member::Member;
 use json_members::{has_only, list_at, optional_number, optional_text, optional_truth, text_at};
-use serde_json::Value;
+use serde_json::{Map, Value};
 
 /// Returns the first flaw of these.
 pub fn first<F: Copy + Drop>(flaws: &[Option<F>]) -> Option<F>
@@ -45,12 +47,30 @@ pub fn unlisted(value: &Value, names: &[&str]) -> Option<Flaw>
     ensures { result ≡ unlisted (map (λ name. name.now) names.now) (view value.now) }
 {
     if has_only(value, names) {
-        None
-    } else if value.as_object().is_some() {
-        Some(Flaw::Unlisted)
-    } else {
-        Some(Flaw::NoObject)
+        return None;
     }
+    match value.as_object() {
+        Some(members) => Some(Flaw::Unlisted(first_other(members, names))),
+        None => Some(Flaw::NoObject),
+    }
+}
+
+/// Returns the number of the first member that is not listed.
+fn first_other(members: &Map<String, Value>, names: &[&str]) -> usize
+    ensures { result ≡ unwrap_or (position
+        (λ key. not (list_any (λ listed. bytes_eq (string_bytes key) listed.now) names.now))
+        (keys members.now)) 0 }
+{
+    let place = members
+        .keys()
+        .position(|key| !is_listed(key.as_str(), names));
+    place.unwrap_or(0)
+}
+
+fn is_listed(name: &str, names: &[&str]) -> bool
+    ensures { result ≡ list_any (λ listed. bytes_eq name.now listed.now) names.now }
+{
+    names.iter().any(|listed| name == *listed)
 }
 
 pub fn other_kind(value: &Value) -> Flaw

@@ -3,4 +3,4 @@
 
 mod numbering;
 
-pub use numbering::{Found, Numbered, element_of_number};
+pub use numbering::{Found, Numbered, element_of_number, elements_of};

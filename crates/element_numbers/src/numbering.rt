@@ -160,6 +160,22 @@ fn way_by(alloc: Global, value: &Value, name: &str, number: usize) -> Result<Way
     }
 }
 
+/// Returns the elements of a list, each before those inside it. The flows of splits are among them.
+///
+/// The time and memory are proportional to the size of the list.
+///
+/// # Errors
+///
+/// Returns `OutOfMemory` if memory is refused.
+pub fn elements_of(alloc: Global, list: &[Value]) -> Result<Vec<Numbered<'_>>, OutOfMemory>
+    ensures { IfOk result (λ all. map bare_of all.items
+        ≡ map bare (all_in false 0 (items_view list.now))) }
+{
+    let mut all = Vec::new(alloc);
+    add_all(list, false, &mut all)?;
+    Ok(all)
+}
+
 fn found_at<'v>(
     alloc: Global,
     list: &'v [Value],
@@ -169,8 +185,7 @@ fn found_at<'v>(
         ≡ slice_get (all_in false 0 (items_view list.now)) number) }
     ensures few { IfOk result (λ found. length (all_in false 0 (items_view list.now)) < 2 ^ 64) }
 {
-    let mut all = Vec::new(alloc);
-    add_all(list, false, &mut all)?;
+    let all = elements_of(alloc, list)?;
     if number >= all.len() {
         return Ok(None);
     }

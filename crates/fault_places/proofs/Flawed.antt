@@ -1,10 +1,18 @@
 -- The object that has a flaw is in the element, and has the member that is called wrong.
-use Rattle.std.proofs.Common.{◌≡◌, ◌∙◌, ℕ, suc, ◌+◌, List, [], ◌∷◌, Bool, true, false, cond, codes, is_some, Option, Some, None, option_and_then, refl, ap, arith}
+use Rattle.std.proofs.Common.{◌≡◌, ◌∙◌, ℕ, zero, suc, ◌+◌, ◌<◌, List, [], ◌∷◌, length, Bool, true, false, cond, not, ◌&&◌, nat_lt, codes, bytes_eq, slice_get, is_some, Option, Some, None, option_and_then, unwrap_or, refl, sym, ap, subst, true≢false, arith}
 use Rattle.std.proofs.lemmas.Option.{same_Some}
 use Rattle.std.specs.Option.{option_or}
-use Rattle.serde_json.specs.Data.{Data, null, boolean, number, string, array, object, Items, no_items, item}
-use Rattle.serde_json.specs.Find.{get, get_item, as_array, as_object}
-use Rattle.json_members.specs.Members.{has_only, is_text, text_at, optional_text, list_at, optional_list, object_at, optional_object, as_object_value, if_there}
+use Rattle.std.specs.List.{list_any, position_or_len}
+use Rattle.std.specs.declared.cmp.Ordering.{Ordering}
+use Rattle.std.specs.declared.cmp.Ordering.TheVariants.{Less, Equal, Greater}
+use Rattle.std.specs.Ordering.{nat_cmp, match_ordering, is_eq}
+use Rattle.std.specs.Cmp.Lexicographic.{slice_cmp}
+use Rattle.std.proofs.lemmas.Map.Text.{is_eq-slice_cmp}
+use Rattle.std.proofs.lemmas.Slice.Eq.{bytes_eq-Decides}
+use Rattle.std.proofs.lemmas.Bool.Decides.{nat_tests}
+use Rattle.serde_json.specs.Data.{Data, null, boolean, number, string, array, object, Items, no_items, item, Members, no_members, member}
+use Rattle.serde_json.specs.Find.{get, get_member, get_item, as_array, as_object}
+use Rattle.json_members.specs.Members.{names_among, has_only, is_text, text_at, optional_text, list_at, optional_list, object_at, optional_object, as_object_value, if_there}
 use Rattle.jsl_json.specs.Tasks.{truth_or, count_or, item_count_at, partitions_at, chunk_names}
 use Rattle.jsl_json.specs.Transitions.{next_names, end_names, stop_names}
 use Rattle.jsl_json.specs.Members.{step_names, flow_names, split_names, decision_names, split_flow_names, job_names}
@@ -16,14 +24,14 @@ use Rattle.catalogue_places.specs.declared.flaws.Inside.TheVariants.{Own, In, In
 use Rattle.catalogue_places.specs.declared.member.Member.{Member}
 use Rattle.catalogue_places.specs.declared.member.Member.TheVariants.{Jobs, Id, Restartable, Elements, Kind, Next, StartLimit, AllowStartIfComplete, Partitions, Batchlet, Chunk, Transitions, Flows, Ref, ItemCount, Reader, Processor, Writer, On, To, ExitStatus, Restart}
 use Rattle.catalogue_places.specs.Names.{name_of}
-use Rattle.catalogue_places.specs.Flaws.{first, absent_or_wrong, unless, needs, unlisted, other_kind, within, catalogue_flaw, job_flaw, split_flow_flaw, artifact_flaw, end_flaw, then_flaw, transition_flaw, transitions_spot_in, transitions_spot_if, transitions_spot, artifact_spot_in, artifact_spot_if, chunk_spot, one_task_spot, task_spot_of, task_spot, step_spot, flow_spot, split_spot, decision_spot, kind_spot, element_spot}
+use Rattle.catalogue_places.specs.Flaws.{first, names_in, first_other, absent_or_wrong, unless, needs, unlisted, other_kind, within, catalogue_flaw, job_flaw, split_flow_flaw, artifact_flaw, end_flaw, then_flaw, transition_flaw, transitions_spot_in, transitions_spot_if, transitions_spot, artifact_spot_in, artifact_spot_if, chunk_spot, one_task_spot, task_spot_of, task_spot, step_spot, flow_spot, split_spot, decision_spot, kind_spot, element_spot}
 use Rattle.element_numbers.specs.Numbering.{nth, named, value_by}
-use Rattle.fault_places.specs.Sites.{spot_of, path_inside}
+use Rattle.fault_places.specs.Sites.{spot_of, path_inside, nth_name}
 
 -- if the flaw is a wrong member, the object has it
 abbrev pub FlawIn : Data → Flaw → Type 0
 FlawIn d NoObject = Unit {0}
-FlawIn d Unlisted = Unit {0}
+FlawIn d (Unlisted n) = (name : List ℕ) × (e : Data) × (nth_name n d ≡ Some name) × (get name d ≡ Some e)
 FlawIn d (Missing m) = Unit {0}
 FlawIn d (Wrong m) = (e : Data) × (get (name_of m) d ≡ Some e)
 FlawIn d NotOneTask = Unit {0}
@@ -37,7 +45,7 @@ abbrev pub Each : {F : Type 0} → (F → Type 0) → Option F → Type 0
 Each P None = Unit {0}
 Each P (Some f) = P f
 
-either : {F : Type 0} (P : F → Type 0) (f g : Option F) → Each P f → Each P g → Each P (option_or f g)
+pub either : {F : Type 0} (P : F → Type 0) (f g : Option F) → Each P f → Each P g → Each P (option_or f g)
 either P None g h k = k
 either P (Some f) g h k = h
 
@@ -70,13 +78,52 @@ unless_in : (right : Bool) (m : Member) (d : Data) → Each (FlawIn d) (unless r
 unless_in true m d = tt
 unless_in false m d = absent_in m d
 
-listed_or : (listed held : Bool) (d : Data) → Each (FlawIn d) (cond listed None (Some (cond held Unlisted NoObject)))
-listed_or true held d = tt
-listed_or false true d = tt
-listed_or false false d = tt
+-- one of the members is not listed
+one_other : (here rest : Bool) (n m : ℕ) → (here && rest) ≡ false → (rest ≡ false → n < m) → cond (not (not here)) (1 + n) 0 < suc m
+one_other true rest n m h k = let less = k h in omega arith
+one_other false rest n m h k = omega arith
+
+other_before : (names : List (List ℕ)) (ms : Members) → names_among names ms ≡ false → position_or_len (λ name. not (list_any (bytes_eq name) names)) (names_in ms) < length (names_in ms)
+other_before names no_members h = absurd (true≢false h)
+other_before names (member k d ms) h =
+    one_other (list_any (bytes_eq k) names) (names_among names ms) (position_or_len (λ name. not (list_any (bytes_eq name) names)) (names_in ms)) (length (names_in ms)) h (λ none. other_before names ms none)
+
+first_is : (n m : ℕ) → n < m → unwrap_or (cond (nat_lt n m) (Some n) None) 0 ≡ n
+first_is n m less = grind (arith, nat_tests)
+
+-- the member of a number is found by its name
+by_name : (o : Ordering) (e : Data) (rest : Option Data) → is_eq o ≡ true → match_ordering o rest (Some e) rest ≡ Some e
+by_name Less e rest h = absurd (true≢false (sym h))
+by_name Equal e rest h = refl
+by_name Greater e rest h = absurd (true≢false (sym h))
+
+or_here : (o : Ordering) (e x : Data) (rest : Option Data) → rest ≡ Some x → (y : Data) × (match_ordering o rest (Some e) rest ≡ Some y)
+or_here Less e x rest h = (x, h)
+or_here Equal e x rest h = (e, refl)
+or_here Greater e x rest h = (x, h)
+
+member_there : (ms : Members) (n : ℕ) → n < length (names_in ms) → (name : List ℕ) × (e : Data) × (slice_get (names_in ms) n ≡ Some name) × (get_member name ms ≡ Some e)
+member_there no_members n h = absurd (omega arith)
+member_there (member k d ms) zero h = (k, d, refl, by_name (slice_cmp nat_cmp k k) d (get_member k ms) (is_eq-slice_cmp k k ∙ (bytes_eq-Decides k k).1 refl))
+member_there (member k d ms) (suc n) h =
+    let r = member_there ms n (omega arith) in
+    let t = or_here (slice_cmp nat_cmp r.0 k) d r.1 (get_member r.0 ms) r.3 in
+    (r.0, t.0, r.2, t.1)
+
+other_in_object : (names : List (List ℕ)) (ms : Members) (b : Bool) → names_among names ms ≡ b → Each (FlawIn (object ms)) (cond b None (Some (Unlisted (first_other names ms))))
+other_in_object names ms true is = tt
+other_in_object names ms false is =
+    let n = position_or_len (λ name. not (list_any (bytes_eq name) names)) (names_in ms) in
+    let less : n < length (names_in ms) = other_before names ms is in
+    subst (λ m. FlawIn (object ms) (Unlisted m)) (sym (first_is n (length (names_in ms)) less)) (member_there ms n less)
 
 unlisted_in : (names : List (List ℕ)) (d : Data) → Each (FlawIn d) (unlisted names d)
-unlisted_in names d = listed_or (has_only names d) (is_some (as_object d)) d
+unlisted_in names null = tt
+unlisted_in names (boolean b) = tt
+unlisted_in names (number x) = tt
+unlisted_in names (string s) = tt
+unlisted_in names (array ds) = tt
+unlisted_in names (object ms) = other_in_object names ms (names_among names ms) refl
 
 kind_or : (held : Bool) (d : Data) → FlawIn d (cond held (absent_or_wrong Kind d) NoObject)
 kind_or true d = absent_in Kind d
@@ -148,7 +195,7 @@ own_unlisted names d = own_in d (unlisted names d) (unlisted_in names d)
 own_needs : {A : Type 0} (reading : List ℕ → Data → Option A) (m : Member) (d : Data) → Each (SpotIn d) (within Own (needs reading m d))
 own_needs reading m d = own_in d (needs reading m d) (needs_in reading m d)
 
-is_object : (o : Option Data) (e : Data) → option_and_then as_object_value o ≡ Some e → o ≡ Some e
+pub is_object : (o : Option Data) (e : Data) → option_and_then as_object_value o ≡ Some e → o ≡ Some e
 is_object None e h = cc
 is_object (Some null) e h = cc
 is_object (Some (boolean b)) e h = cc
@@ -175,13 +222,13 @@ if_array (Some (string s)) ds h = cc
 if_array (Some (array es)) ds h = ap (λ (x : Items). Some (array x)) (same_Some es ds (same_Some (Some es) (Some ds) h))
 if_array (Some (object ms)) ds h = cc
 
-by_member : (m : Member) (d e : Data) → get (name_of m) d ≡ Some e → value_by (path_inside (In m)) d ≡ Some e
+pub by_member : (m : Member) (d e : Data) → get (name_of m) d ≡ Some e → value_by (path_inside (In m)) d ≡ Some e
 by_member m d e is = ap (option_and_then (value_by [])) is
 
-in_chunk : (m : Member) (d c e : Data) → get (name_of Chunk) d ≡ Some c → get (name_of m) c ≡ Some e → value_by (path_inside (InChunk m)) d ≡ Some e
+pub in_chunk : (m : Member) (d c e : Data) → get (name_of Chunk) d ≡ Some c → get (name_of m) c ≡ Some e → value_by (path_inside (InChunk m)) d ≡ Some e
 in_chunk m d c e chunk is = ap (option_and_then (value_by (named (name_of m) ∷ []))) chunk ∙ ap (option_and_then (value_by [])) is
 
-at_transition : (n : ℕ) (d e : Data) (ds : Items) → get (name_of Transitions) d ≡ Some (array ds) → get_item n ds ≡ Some e → value_by (path_inside (Transition n)) d ≡ Some e
+pub at_transition : (n : ℕ) (d e : Data) (ds : Items) → get (name_of Transitions) d ≡ Some (array ds) → get_item n ds ≡ Some e → value_by (path_inside (Transition n)) d ≡ Some e
 at_transition n d e ds list is = ap (option_and_then (value_by (nth n ∷ []))) list ∙ ap (option_and_then (value_by [])) is
 
 transitions_from : (d : Data) (whole : Items) → get (name_of Transitions) d ≡ Some (array whole) → (n : ℕ) (ds : Items) → ((i : ℕ) → get_item (n + i) whole ≡ get_item i ds) → Each (SpotIn d) (transitions_spot_in n ds)

@@ -1,3 +1,5 @@
+pub mod Names
 pub mod Flawed
+pub mod Ruled
 pub mod Sited
 pub mod Placing

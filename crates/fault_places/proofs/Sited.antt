@@ -1,5 +1,5 @@
 -- Each fault of a catalogue's text has a site, if it has a place, and the path of a site leads to a value.
-use Rattle.std.proofs.Common.{◌≡◌, ◌∙◌, ◌⊎◌, inl, inr, ℕ, suc, ◌+◌, ◌^◌, ◌<◌, ◌≤◌, List, [], ◌∷◌, ◌++◌, length, length-append, slice_get, Bool, true, false, cond, codes, IsSome, is_some, Option, Some, None, option_map, option_and_then, Result, Ok, Err, refl, sym, ap, subst, arith}
+use Rattle.std.proofs.Common.{◌≡◌, ◌∙◌, ◌⊎◌, ◌==◌, inl, inr, ℕ, suc, ◌+◌, ◌^◌, ◌<◌, ◌≤◌, List, [], ◌∷◌, ◌++◌, length, length-append, map, slice_get, Bool, true, false, cond, codes, IsSome, is_some, Option, Some, None, option_map, option_and_then, Result, Ok, Err, refl, sym, ap, subst, arith}
 use Rattle.std.specs.Str.{is_utf8}
 use Rattle.std.proofs.lemmas.Option.{none-some}
 use Rattle.serde_json.specs.Data.{Data, Items, no_items, item, items_depth}
@@ -25,12 +25,18 @@ use Rattle.catalogue_places.specs.declared.member.Member.TheVariants.{Jobs, Elem
 use Rattle.catalogue_places.specs.Names.{name_of}
 use Rattle.catalogue_places.specs.Flaws.{Agrees, within, catalogue_flaw, job_flaw, split_flow_flaw, element_spot}
 use Rattle.element_numbers.specs.Numbering.{Key, nth, named, value_by, Numbered, OwnWrong, all_in}
-use Rattle.fault_places.specs.Sites.{Site, spot_of, to_member, site_of, path_inside, job_of, job_path, element_of, element_path, element_site, element_or_job, job_fault_site, job_fault_has_place, site_in, has_place}
+use Rattle.element_numbers.specs.Ways.{bare}
+use Rattle.element_levels.specs.Levels.{steps_left}
+use Rattle.rule_spots.specs.declared.hits.Hit.{Hit}
+use Rattle.rule_spots.specs.Hits.{hit_of}
+use Rattle.std.specs.Option.{option_or}
+use Rattle.fault_places.specs.Sites.{Site, spot_of, to_member, to_name, nth_name, site_of, spot_site, path_inside, job_of, job_path, element_of, element_path, element_site, element_or_job, item_path, hit_site, is_duplicate, hit_number, numbered_hit, element_hit, own_hit, first_hit, or_job, hit_or_job, number_from, deep_element, job_fault_site, job_fault_has_place, site_in, has_place}
 use Rattle.fault_places.specs.SiteViews.{Few}
 use Rattle.catalogue_places.proofs.Laws.{catalogue_agrees, job_agrees, split_flow_agrees, element_agrees}
 use Rattle.element_numbers.proofs.Counting.{Outcome, Wrong, made, last, tested, all_count, number_found}
 use Rattle.element_numbers.proofs.Leading.{is_array, element_leads}
-use Rattle.fault_places.proofs.Flawed.{FlawIn, SpotIn, Each, catalogue_in as catalogue_flaw_in, job_in, spot_in}
+use Rattle.fault_places.proofs.Flawed.{FlawIn, SpotIn, Each, either, catalogue_in as catalogue_flaw_in, job_in, spot_in}
+use Rattle.fault_places.proofs.Ruled.{HitIn, each_then, hit_in}
 
 -- ---- the path of a site leads to a value
 
@@ -50,9 +56,10 @@ onward p q d e o first second = by-append p q d ∙ ap (option_and_then (value_b
 abbrev pub Leads : Data → Site → Type 0
 Leads d site = (e : Data) × (value_by site.path d ≡ Some e)
 
-site_of_leads : (path : List Key) (d e : Data) (flaw : Flaw) → value_by path d ≡ Some e → FlawIn e flaw → Leads d (site_of path flaw)
+site_of_leads : (path : List Key) (d e : Data) (flaw : Flaw) → value_by path d ≡ Some e → FlawIn e flaw → Leads d (site_of path e flaw)
 site_of_leads path d e NoObject leads h = (e, leads)
-site_of_leads path d e Unlisted leads h = (e, leads)
+site_of_leads path d e (Unlisted n) leads h =
+    (h.1, onward path (to_name (nth_name n e)) d e (Some h.1) leads (ap (λ o. value_by (to_name o) e) h.2 ∙ ap (option_and_then (value_by [])) h.3))
 site_of_leads path d e (Missing m) leads h = (e, leads)
 site_of_leads path d e (WrongMember m) leads h = (h.0, onward path (to_member m ∷ []) d e (Some h.0) leads (ap (option_and_then (value_by [])) h.1))
 site_of_leads path d e NotOneTask leads h = (e, leads)
@@ -61,9 +68,9 @@ each_map : {A B : Type 0} (P : A → Type 0) (Q : B → Type 0) (f : A → B) (o
 each_map P Q f None h k = tt
 each_map P Q f (Some a) h k = h a k
 
-each_then : {A B : Type 0} (Q : B → Type 0) (f : A → Option B) (o : Option A) → ((a : A) → o ≡ Some a → Each Q (f a)) → Each Q (option_and_then f o)
-each_then Q f None h = tt
-each_then Q f (Some a) h = h a refl
+each_bound : {A B : Type 0} (P : A → Type 0) (Q : B → Type 0) (f : A → Option B) (o : Option A) → ((a : A) → P a → Each Q (f a)) → Each P o → Each Q (option_and_then f o)
+each_bound P Q f None h k = tt
+each_bound P Q f (Some a) h k = h a k
 
 job_from_list : (n : ℕ) (d job : Data) (o : Option Items) → list_at (name_of Jobs) d ≡ o → option_and_then (get_item n) o ≡ Some job → value_by (job_path n) d ≡ Some job
 job_from_list n d job None is found = absurd (none-some job found)
@@ -78,39 +85,94 @@ element_from_list n job e None is found = absurd (none-some e found)
 element_from_list n job e (Some ds) is found =
     ap (option_and_then (value_by e.path)) (is_array (get (name_of Elements) job) ds is) ∙ element_leads ds n e found
 
-flawed_object : (path : List Key) (d e : Data) (o : Option Flaw) → value_by path d ≡ Some e → Each (FlawIn e) o → Each (Leads d) (option_map (site_of path) o)
-flawed_object path d e o leads h = each_map (FlawIn e) (Leads d) (site_of path) o (λ flaw k. site_of_leads path d e flaw leads k) h
+flawed_object : (path : List Key) (d e : Data) (o : Option Flaw) → value_by path d ≡ Some e → Each (FlawIn e) o → Each (Leads d) (option_map (site_of path e) o)
+flawed_object path d e o leads h = each_map (FlawIn e) (Leads d) (site_of path e) o (λ flaw k. site_of_leads path d e flaw leads k) h
 
 element_site_leads : (n : ℕ) (d : Data) (e : Numbered) → value_by (element_path n e) d ≡ Some e.value → Each (Leads d) (element_site n e)
 element_site_leads n d e leads =
-    each_map (SpotIn e.value) (Leads d) (λ spot. site_of (element_path n e ++ path_inside spot.inside) spot.flaw) (spot_of e.in_split e.value)
-    (λ spot k. site_of_leads (element_path n e ++ path_inside spot.inside) d k.0 spot.flaw (onward (element_path n e) (path_inside spot.inside) d e.value (Some k.0) leads k.1) k.2)
+    each_bound (SpotIn e.value) (Leads d) (spot_site (element_path n e) e.value) (spot_of e.in_split e.value)
+    (λ spot k. subst (λ o. Each (Leads d) (option_map (λ object. site_of (element_path n e ++ path_inside spot.inside) object spot.flaw) o)) (sym k.1)
+    (site_of_leads (element_path n e ++ path_inside spot.inside) d k.0 spot.flaw (onward (element_path n e) (path_inside spot.inside) d e.value (Some k.0) leads k.1) k.2))
     (spot_in e.in_split e.value)
 
-element_or_job_leads : (n : ℕ) (d job : Data) (o : Option Numbered) → job_of n d ≡ Some job → element_of 1000 job ≡ o → Leads d (element_or_job n o)
+-- the element is one of the job
+abbrev IsOf : Data → Numbered → Type 0
+IsOf job e = (n : ℕ) × (element_of n job ≡ Some e)
+
+element_or_job_leads : (n : ℕ) (d job : Data) (o : Option Numbered) → job_of n d ≡ Some job → Each (IsOf job) o → Leads d (element_or_job n o)
 element_or_job_leads n d job None is found = (job, job_leads n d job is)
 element_or_job_leads n d job (Some e) is found = (
   e.value,
   onward (job_path n) (to_member Elements ∷ e.path) d job (Some e.value) (job_leads n d job is)
-      (element_from_list 1000 job e (list_at (name_of Elements) job) refl found),
+      (element_from_list found.0 job e (list_at (name_of Elements) job) refl found.1),
 )
 
+numbered_is_of : (number : ℕ) (job : Data) (o : Option Numbered) → element_of number job ≡ o → Each (IsOf job) o
+numbered_is_of number job None is = tt
+numbered_is_of number job (Some e) is = (number, is)
+
+deep_is_of : (job : Data) → Each (IsOf job) (option_and_then deep_element (list_at (name_of Elements) job))
+deep_is_of job =
+    each_then (IsOf job) deep_element (list_at (name_of Elements) job)
+    (λ elements listed. each_then (IsOf job) (slice_get (all_in false 0 elements)) (number_from (λ (left : ℕ). left == 0) 0 (map (steps_left 33) (all_in false 0 elements)))
+    (λ number i. numbered_is_of number job (slice_get (all_in false 0 elements) number) (ap (option_and_then (λ es. slice_get (all_in false 0 es) number)) listed)))
+
+hit_leads : (path : List Key) (d e : Data) (hit : Hit) → value_by path d ≡ Some e → HitIn e hit → Leads d (hit_site path hit)
+hit_leads path d e hit leads h =
+    let item = onward path (item_path hit.item) d e (Some h.0) leads h.1 in
+    let object = onward (path ++ item_path hit.item) (path_inside hit.part.inside) d h.0 (Some h.2.0) item h.2.1 in (
+      h.2.2.0,
+      onward ((path ++ item_path hit.item) ++ path_inside hit.part.inside) (to_member hit.part.member ∷ []) d h.2.0 (Some h.2.2.0) object (ap (option_and_then (value_by [])) h.2.2.1),
+    )
+
+own_hit_leads : (n : ℕ) (d job : Data) (fault : JobFault) (elements : Items) → job_of n d ≡ Some job → Each (Leads d) (own_hit n fault elements job)
+own_hit_leads n d job fault elements is =
+    each_map (HitIn job) (Leads d) (hit_site (job_path n)) (hit_of fault elements job) (λ hit h. hit_leads (job_path n) d job hit (job_leads n d job is) h) (hit_in fault elements job)
+
+numbered_hit_leads : (n : ℕ) (d : Data) (e : Numbered) (fault : JobFault) (elements : Items) → value_by (element_path n e) d ≡ Some e.value → Each (Leads d) (numbered_hit n fault elements e)
+numbered_hit_leads n d e fault elements leads =
+    each_map (HitIn e.value) (Leads d) (hit_site (element_path n e)) (hit_of fault elements e.value) (λ hit h. hit_leads (element_path n e) d e.value hit leads h)
+    (hit_in fault elements e.value)
+
+element_hit_leads : (n : ℕ) (d job : Data) (fault : JobFault) (elements : Items) → job_of n d ≡ Some job → list_at (name_of Elements) job ≡ Some elements → Each (Leads d) (element_hit n fault elements)
+element_hit_leads n d job fault elements is listed =
+    each_then (Leads d) (λ number. option_and_then (numbered_hit n fault elements) (slice_get (all_in false 0 elements) number)) (hit_number fault elements (map bare (all_in false 0 elements)))
+    (λ number i. each_then (Leads d) (numbered_hit n fault elements) (slice_get (all_in false 0 elements) number)
+    (λ e found. numbered_hit_leads n d e fault elements
+    (onward (job_path n) (to_member Elements ∷ e.path) d job (Some e.value) (job_leads n d job is)
+    (element_from_list number job e (Some elements) listed found))))
+
+either_order : (P : Site → Type 0) (b : Bool) (f g : Option Site) → Each P f → Each P g → Each P (cond b (option_or f g) (option_or g f))
+either_order P true f g h k = either P f g h k
+either_order P false f g h k = either P g f k h
+
+or_job_leads : (n : ℕ) (d job : Data) (o : Option Site) → job_of n d ≡ Some job → Each (Leads d) o → Leads d (or_job n o)
+or_job_leads n d job None is h = (job, job_leads n d job is)
+or_job_leads n d job (Some site) is h = h
+
+hit_or_job_leads : (n : ℕ) (d job : Data) (fault : JobFault) → job_of n d ≡ Some job → Leads d (hit_or_job n fault job)
+hit_or_job_leads n d job fault is =
+    or_job_leads n d job (option_and_then (first_hit n fault job) (list_at (name_of Elements) job)) is
+    (each_then (Leads d) (first_hit n fault job) (list_at (name_of Elements) job)
+    (λ elements listed. either_order (Leads d) (is_duplicate fault) (element_hit n fault elements) (own_hit n fault elements job)
+    (element_hit_leads n d job fault elements is listed) (own_hit_leads n d job fault elements is)))
+
 job_fault_leads : (n : ℕ) (d job : Data) (fault : JobFault) → job_of n d ≡ Some job → Each (Leads d) (job_fault_site n fault job)
-job_fault_leads n d job TextTooLong is = tt
-job_fault_leads n d job Empty is = tt
-job_fault_leads n d job TooDeep is = tt
-job_fault_leads n d job TooMany is = element_or_job_leads n d job (element_of 1000 job) is refl
-job_fault_leads n d job DuplicateId is = tt
-job_fault_leads n d job NoSuchTarget is = tt
-job_fault_leads n d job Loop is = tt
-job_fault_leads n d job RestartNotJobLevel is = tt
+job_fault_leads n d job TextTooLong is = hit_or_job_leads n d job TextTooLong is
+job_fault_leads n d job Empty is = hit_or_job_leads n d job Empty is
+job_fault_leads n d job TooDeep is = element_or_job_leads n d job (option_and_then deep_element (list_at (name_of Elements) job)) is (deep_is_of job)
+job_fault_leads n d job TooMany is = element_or_job_leads n d job (element_of 1000 job) is (numbered_is_of 1000 job (element_of 1000 job) refl)
+job_fault_leads n d job DuplicateId is = hit_or_job_leads n d job DuplicateId is
+job_fault_leads n d job NoSuchTarget is = hit_or_job_leads n d job NoSuchTarget is
+job_fault_leads n d job Loop is = hit_or_job_leads n d job Loop is
+job_fault_leads n d job RestartNotJobLevel is = hit_or_job_leads n d job RestartNotJobLevel is
 job_fault_leads n d job NoMemory is = tt
 
 pub site_leads : (fault : ReadFault) (d : Data) → Each (Leads d) (site_in fault d)
 site_leads NotJson d = tt
 site_leads NotACatalogue d = flawed_object [] d d (catalogue_flaw d) refl (catalogue_flaw_in d)
 site_leads (BadElement n None) d =
-    each_then (Leads d) (λ job. option_map (site_of (job_path n)) (job_flaw job)) (job_of n d)
+    each_then (Leads d) (λ job. option_map (site_of (job_path n) job) (job_flaw job)) (job_of n d)
     (λ job is. flawed_object (job_path n) d job (job_flaw job) (job_leads n d job is) (job_in job))
 site_leads (BadElement n (Some m)) d =
     each_then (Leads d) (λ job. option_and_then (element_site n) (element_of m job)) (job_of n d)
@@ -246,12 +308,20 @@ job_fault_sited n job Loop = refl
 job_fault_sited n job RestartNotJobLevel = refl
 job_fault_sited n job NoMemory = refl
 
+object_sited : (path : List Key) (d : Data) (spot : Spot) (o : Option Data) (e : Data) → o ≡ Some e → is_some (option_map (λ object. site_of (path ++ path_inside spot.inside) object spot.flaw) o) ≡ true
+object_sited path d spot None e is = absurd (none-some e is)
+object_sited path d spot (Some x) e is = refl
+
+bound_spot : (path : List Key) (d : Data) (o : Option Spot) → Each (SpotIn d) o → is_some o ≡ true → is_some (option_and_then (spot_site path d) o) ≡ true
+bound_spot path d None each h = h
+bound_spot path d (Some spot) each h = object_sited path d spot (value_by (path_inside spot.inside) d) each.0 each.1
+
 -- a fault of a job has a site, if it has a place
 job_sited : (d job : Data) (n : ℕ) (fault : ReadFault) → Few fault d → job_of n d ≡ Some job → FromJob n job fault → is_some (site_in fault d) ≡ has_place fault
 job_sited d job n fault few is (inl h) =
     let there : is_some (site_in (BadElement n None) d) ≡ true =
-    ap (λ (o : Option Data). is_some (option_and_then (λ j. option_map (site_of (job_path n)) (job_flaw j)) o)) is
-    ∙ mapped (site_of (job_path n)) (job_flaw job) (flawed (job_flaw job) (own_job_of job) h.1 (job_agrees job)) in
+    ap (λ (o : Option Data). is_some (option_and_then (λ j. option_map (site_of (job_path n) j) (job_flaw j)) o)) is
+    ∙ mapped (site_of (job_path n) job) (job_flaw job) (flawed (job_flaw job) (own_job_of job) h.1 (job_agrees job)) in
     subst (λ f. is_some (site_in f d) ≡ has_place f) (sym h.0) there
 job_sited d job n fault few is (inr (inl h)) =
     let es = all_in false 0 h.0.elements in
@@ -260,12 +330,11 @@ job_sited d job n fault few is (inr (inl h)) =
     let few_here : Few (BadElement n (Some so.0)) d = subst (λ f. Few f d) so.1 few in
     let bound : length es < 2 ^ 64 = few_here job is h.0.elements listed in
     let found = number_found n 0 es fault h.2 (omega arith) in
-    let site : Spot → Site = λ spot. site_of (element_path n found.1 ++ path_inside spot.inside) spot.flaw in
     let there : is_some (site_in (BadElement n (Some found.0)) d) ≡ true =
     ap (λ (o : Option Data). is_some (option_and_then (λ j. option_and_then (element_site n) (element_of found.0 j)) o)) is
     ∙ ap (λ (o : Option Items). is_some (option_and_then (element_site n) (option_and_then (λ xs. slice_get (all_in false 0 xs) found.0) o))) listed
     ∙ ap (λ (o : Option Numbered). is_some (option_and_then (element_site n) o)) found.2
-    ∙ mapped site (spot_of found.1.in_split found.1.value) (spotted found.1.in_split found.1.value found.3) in
+    ∙ bound_spot (element_path n found.1) found.1.value (spot_of found.1.in_split found.1.value) (spot_in found.1.in_split found.1.value) (spotted found.1.in_split found.1.value found.3) in
     let from_0 : 0 + found.0 ≡ found.0 = omega arith in
     let number : fault ≡ BadElement n (Some found.0) = found.4 ∙ ap (λ m. BadElement n (Some m)) from_0 in
     subst (λ f. is_some (site_in f d) ≡ has_place f) (sym number) there
@@ -277,7 +346,7 @@ job_sited d job n fault few is (inr (inr h)) =
 catalogue_sited : (d : Data) (fault : ReadFault) (o : Option Items) → Few fault d → jobs_of d ≡ o → (or_fault o NotACatalogue >>= λ jobs. with_jobs [] jobs) ≡ Err fault → is_some (site_in fault d) ≡ has_place fault
 catalogue_sited d fault None few is h =
     let no : NotACatalogue ≡ fault = cc in
-    subst (λ f. is_some (site_in f d) ≡ has_place f) no (mapped (site_of []) (catalogue_flaw d) (flawed (catalogue_flaw d) (jobs_of d) is (catalogue_agrees d)))
+    subst (λ f. is_some (site_in f d) ≡ has_place f) no (mapped (site_of [] d) (catalogue_flaw d) (flawed (catalogue_flaw d) (jobs_of d) is (catalogue_agrees d)))
 catalogue_sited d fault (Some jobs) few is h =
     let r = with_jobs_fails [] jobs fault h in
     let number : 0 + r.0 ≡ r.0 = omega arith in

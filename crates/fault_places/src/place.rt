@@ -55,11 +55,20 @@ fn place_in(
 /// Returns the place of a fault in the text of a catalogue: the byte, and the member. `read_catalogue`
 /// of `jsl_json` gives the fault.
 ///
-/// The faults that have a place are `NotACatalogue`, `BadElement`, and `TooMany` of a job. For the
-/// others it returns `None`. The place of `TooMany` is the element after the first 1,000 of the job.
-/// If the job has not so many, it is the job, which is one too many for the catalogue.
+/// Each fault has a place but `NotJson` and `OutOfMemory`, for which it returns `None`:
 ///
-/// The time and memory are proportional to the bytes of the text.
+/// - `NotACatalogue` and `BadElement`: the first member that is wrong, missing or not listed.
+/// - `TextTooLong`, `Empty`, `NoSuchTarget`, `RestartNotJobLevel`: the first text, or for `Empty` also
+///   the list, for which a job has the fault. The job's own come before those of its elements.
+/// - `TooDeep`: the first element that is deeper than 16.
+/// - `TooMany`: the element after the first 1,000 of the job. If the job has not so many, it is the job,
+///   which is one too many for the catalogue.
+/// - `DuplicateId`: the first id of an element that an element before it has, or else that of the job.
+/// - `Loop`: the job.
+///
+/// The time is proportional to the bytes of the text, but for `DuplicateId` to the square of the number
+/// of elements, and for `NoSuchTarget` and `RestartNotJobLevel` to the product of the names and of the
+/// elements among which they are looked for. The memory is proportional to the bytes of the text.
 ///
 /// # Errors
 ///

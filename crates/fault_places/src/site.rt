@@ -1,11 +1,14 @@
 // The site of a fault: the steps to the value that is wrong, or to the object that lacks a member.
-ghost use Rattle.std.specs.Prelude.{◌≡◌, ◌++◌, ◌∷◌, [], map, option_map, option_and_then, IfOk};
+ghost use Rattle.std.specs.Prelude.{◌≡◌, ◌++◌, ◌∷◌, [], map, slice_get, option_map, option_and_then, IfOk};
+ghost use Rattle.std.specs.BTreeMap.{keys};
 ghost use Rattle.serde_json.specs.View.{view};
 ghost use Rattle.catalogue_places.specs.Flaws.{job_flaw};
-ghost use Rattle.element_numbers.specs.Numbering.{nth, key_of};
-ghost use Rattle.fault_places.specs.Sites.{spot_of, to_member, site_of, path_inside, job_of, job_path, element_of, element_path, element_site, element_or_job, job_fault_site, site_in};
+ghost use Rattle.element_numbers.specs.Numbering.{nth, key_of, value_by};
+ghost use Rattle.fault_places.specs.Sites.{spot_of, to_member, to_name, nth_name, site_of, path_inside, job_of, job_path, element_of, element_path, element_site, element_or_job, job_fault_site, site_in};
 ghost use Rattle.fault_places.specs.SiteViews.{keys_of, site_view, Few, FewIn};
 
+use crate::deep::too_deep_site;
+use crate::hits::hit_or_job;
 use batch_ids::OutOfMemory;
 use catalogue_places::{
     Flaw, Inside, Member, Spot, catalogue_flaw, element_spot, job_flaw, split_flow_flaw,
@@ -15,7 +18,7 @@ use jsl_json::ReadFault;
 use jsl_model::JobFault;
 use json_members::list_at;
 use json_places::Step;
-use serde_json::Value;
+use serde_json::{Map, Value};
 use std::alloc::Global;
 
 /// The value that is wrong, or the object that lacks a member.
@@ -27,7 +30,11 @@ pub struct Site {
     pub lacks: Option<Member>,
 }
 
-fn with_member(alloc: Global, path: Vec<Step>, member: Member) -> Result<Vec<Step>, OutOfMemory>
+pub(crate) fn with_member(
+    alloc: Global,
+    path: Vec<Step>,
+    member: Member,
+) -> Result<Vec<Step>, OutOfMemory>
     ensures { IfOk result (λ longer. keys_of longer ≡ keys_of path ++ to_member member ∷ []) }
 {
     let name = String::from_str(alloc, member.name())?;
@@ -36,7 +43,53 @@ fn with_member(alloc: Global, path: Vec<Step>, member: Member) -> Result<Vec<Ste
     Ok(longer)
 }
 
-fn with_item(path: Vec<Step>, number: u64) -> Result<Vec<Step>, OutOfMemory>
+/// Adds the step to a member by its name, if there is one.
+fn with_name(alloc: Global, path: Vec<Step>, name: Option<&str>) -> Result<Vec<Step>, OutOfMemory>
+    ensures { IfOk result (λ longer. keys_of longer
+        ≡ keys_of path ++ to_name (option_map (λ text. text.now) name.entry)) }
+{
+    let Some(name) = name else {
+        return Ok(path);
+    };
+    let step = Step::Member(String::from_str(alloc, name)?);
+    let mut longer = path;
+    longer.push(step)?;
+    Ok(longer)
+}
+
+fn nth_key(members: &Map<String, Value>, number: usize) -> Option<&String>
+    ensures { option_map (λ key. key.now) result ≡ slice_get (keys members.now) number }
+{
+    members.keys().nth(number)
+}
+
+/// Returns the name of the member of this number of an object, in the order of the names.
+fn name_of_number(value: &Value, number: usize) -> Option<&str>
+    ensures { option_map (λ text. text.now) result ≡ nth_name number (view value.now) }
+{
+    match value.as_object() {
+        Some(members) => match nth_key(members, number) {
+            Some(key) => Some(key.as_str()),
+            None => None,
+        },
+        None => None,
+    }
+}
+
+/// Returns the object of a flaw inside an element.
+fn object_inside(value: &Value, inside: Inside) -> Option<&Value>
+    ensures { option_map (λ found. view found.now) result
+        ≡ value_by (path_inside inside) (view value.now) }
+{
+    match inside {
+        Inside::Own => Some(value),
+        Inside::In(member) => value.get(member.name()),
+        Inside::InChunk(member) => value.get("chunk")?.get(member.name()),
+        Inside::Transition(number) => value.get("transitions")?.get(number as usize),
+    }
+}
+
+pub(crate) fn with_item(path: Vec<Step>, number: u64) -> Result<Vec<Step>, OutOfMemory>
     ensures { IfOk result (λ longer. keys_of longer ≡ keys_of path ++ nth number ∷ []) }
 {
     let mut longer = path;
@@ -44,12 +97,17 @@ fn with_item(path: Vec<Step>, number: u64) -> Result<Vec<Step>, OutOfMemory>
     Ok(longer)
 }
 
-fn site_of(alloc: Global, path: Vec<Step>, flaw: Flaw) -> Result<Site, OutOfMemory>
-    ensures { IfOk result (λ site. site_view site ≡ site_of (keys_of path) flaw) }
+/// Returns the site of a flaw of this object, which is at the end of this path.
+fn site_of(alloc: Global, path: Vec<Step>, object: &Value, flaw: Flaw) -> Result<Site, OutOfMemory>
+    ensures { IfOk result (λ site. site_view site
+        ≡ site_of (keys_of path) (view object.now) flaw) }
 {
     match flaw {
         Flaw::NoObject => Ok(Site { path, lacks: None }),
-        Flaw::Unlisted => Ok(Site { path, lacks: None }),
+        Flaw::Unlisted(number) => {
+            let path = with_name(alloc, path, name_of_number(object, number))?;
+            Ok(Site { path, lacks: None })
+        }
         Flaw::Missing(member) => Ok(Site {
             path,
             lacks: Some(member),
@@ -63,7 +121,11 @@ fn site_of(alloc: Global, path: Vec<Step>, flaw: Flaw) -> Result<Site, OutOfMemo
 }
 
 /// Adds the steps from an element to the object inside it that has the flaw.
-fn with_inside(alloc: Global, path: Vec<Step>, inside: Inside) -> Result<Vec<Step>, OutOfMemory>
+pub(crate) fn with_inside(
+    alloc: Global,
+    path: Vec<Step>,
+    inside: Inside,
+) -> Result<Vec<Step>, OutOfMemory>
     ensures { IfOk result (λ longer. keys_of longer ≡ keys_of path ++ path_inside inside) }
 {
     match inside {
@@ -90,7 +152,7 @@ fn job_of(value: &Value, job: u64) -> Option<&Value>
     Some(&jobs[job as usize])
 }
 
-fn job_path(alloc: Global, job: u64) -> Result<Vec<Step>, OutOfMemory>
+pub(crate) fn job_path(alloc: Global, job: u64) -> Result<Vec<Step>, OutOfMemory>
     ensures { IfOk result (λ path. keys_of path ≡ job_path job) }
 {
     let jobs = with_member(alloc, Vec::new(alloc), Member::Jobs)?;
@@ -98,7 +160,11 @@ fn job_path(alloc: Global, job: u64) -> Result<Vec<Step>, OutOfMemory>
 }
 
 /// Makes the path to an element from the root, of the path from the list of its job's elements.
-fn element_path(alloc: Global, job: u64, inner: Vec<Step>) -> Result<Vec<Step>, OutOfMemory>
+pub(crate) fn element_path(
+    alloc: Global,
+    job: u64,
+    inner: Vec<Step>,
+) -> Result<Vec<Step>, OutOfMemory>
     ensures { IfOk result (λ path. keys_of path
         ≡ job_path job ++ to_member Member.Elements ∷ keys_of inner) }
 {
@@ -126,12 +192,12 @@ fn spot_of(numbered: Numbered<'_>) -> Option<Spot>
 
 fn job_site(alloc: Global, job: u64, value: &Value) -> Result<Option<Site>, OutOfMemory>
     ensures { IfOk result (λ site. option_map site_view site
-        ≡ option_map (site_of (job_path job)) (job_flaw (view value.now))) }
+        ≡ option_map (site_of (job_path job) (view value.now)) (job_flaw (view value.now))) }
 {
     match job_flaw(value) {
         Some(flaw) => {
             let path = job_path(alloc, job)?;
-            Ok(Some(site_of(alloc, path, flaw)?))
+            Ok(Some(site_of(alloc, path, value, flaw)?))
         }
         None => Ok(None),
     }
@@ -157,9 +223,12 @@ fn element_site(
     let Some(spot) = spot_of(found.numbered) else {
         return Ok(None);
     };
+    let Some(object) = object_inside(found.numbered.value, spot.inside) else {
+        return Ok(None);
+    };
     let path = element_path(alloc, job, found.path)?;
     let path = with_inside(alloc, path, spot.inside)?;
-    Ok(Some(site_of(alloc, path, spot.flaw)?))
+    Ok(Some(site_of(alloc, path, object, spot.flaw)?))
 }
 
 /// Returns the site of the element after the first 1,000 of a job, or of the job if it has not so
@@ -194,14 +263,14 @@ fn job_fault_site(
         ≡ job_fault_site job fault (view value.now)) }
 {
     match fault {
-        JobFault::TextTooLong => Ok(None),
-        JobFault::Empty => Ok(None),
-        JobFault::TooDeep => Ok(None),
+        JobFault::TooDeep => Ok(Some(too_deep_site(alloc, job, value)?)),
         JobFault::TooMany => Ok(Some(too_many_site(alloc, job, value)?)),
-        JobFault::DuplicateId => Ok(None),
-        JobFault::NoSuchTarget => Ok(None),
-        JobFault::Loop => Ok(None),
-        JobFault::RestartNotJobLevel => Ok(None),
+        JobFault::TextTooLong => Ok(Some(hit_or_job(alloc, job, fault, value)?)),
+        JobFault::Empty => Ok(Some(hit_or_job(alloc, job, fault, value)?)),
+        JobFault::DuplicateId => Ok(Some(hit_or_job(alloc, job, fault, value)?)),
+        JobFault::NoSuchTarget => Ok(Some(hit_or_job(alloc, job, fault, value)?)),
+        JobFault::Loop => Ok(Some(hit_or_job(alloc, job, fault, value)?)),
+        JobFault::RestartNotJobLevel => Ok(Some(hit_or_job(alloc, job, fault, value)?)),
         JobFault::OutOfMemory => Ok(None),
     }
 }
@@ -214,7 +283,7 @@ pub fn site_in(alloc: Global, value: &Value, fault: ReadFault) -> Result<Option<
 {
     match fault {
         ReadFault::NotACatalogue => match catalogue_flaw(value) {
-            Some(flaw) => Ok(Some(site_of(alloc, Vec::new(alloc), flaw)?)),
+            Some(flaw) => Ok(Some(site_of(alloc, Vec::new(alloc), value, flaw)?)),
             None => Ok(None),
         },
         ReadFault::BadElement { job, element } => match (job_of(value, job), element) {
