@@ -1,0 +1,2 @@
+pub mod MemberTexts
+pub mod Verdicts
