@@ -11,3 +11,4 @@ pub mod Building
 pub mod Readying
 pub mod Answering
 mod Words
+pub mod Checking

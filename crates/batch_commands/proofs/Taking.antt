@@ -1,5 +1,5 @@
--- The words that ask for a script or a run are words that the command takes.
-use Rattle.std.proofs.Common.{◌≡◌, ◌∙◌, ◌⊎◌, inl, inr, ℕ, zero, suc, ◌+◌, ◌-◌, ◌^◌, ◌<◌, ◌≤◌, ◌==◌, ◌&&◌, List, [], ◌∷◌, ◌++◌, Bool, true, false, cond, drop, refl, sym, ap, ap₂, subst, codes, arith, lt-ltb, le-leb, ltb-false, ltb-true, eqb-true}
+-- The words that ask for a script, a run or a check are words that the command takes.
+use Rattle.std.proofs.Common.{◌≡◌, ◌∙◌, ◌⊎◌, inl, inr, ℕ, zero, suc, ◌+◌, ◌-◌, ◌^◌, ◌<◌, ◌≤◌, ◌==◌, ◌&&◌, List, [], ◌∷◌, ◌++◌, Bool, true, false, Bor, Option, Some, None, cond, drop, refl, sym, ap, ap₂, subst, codes, arith, lt-ltb, le-leb, ltb-false, ltb-true, eqb-true}
 use Rattle.std.specs.Prelude.{nat_le, nat_lt}
 use Rattle.std.specs.List.{list_all}
 use Rattle.std.specs.Char.{digit_value}
@@ -7,12 +7,12 @@ use Rattle.std.specs.Str.Parse.{AllDigits, digits_value, without_leading_plus}
 use Rattle.clap.specs.Words.{takes}
 use Rattle.clap.specs.ValueTests.{is_unsigned_in}
 use Rattle.clap.proofs.OnLiterals.{clap_on_literals}
-use Rattle.batch_commands.specs.Asked.{IsAsked, IsLogName, IsNumberText, AsksFor, HasFlag, HasFlags, HasOptions, NamesLog}
+use Rattle.batch_commands.specs.Asked.{IsAsked, IsLogName, IsNumberText, AsksFor, HasFlag, HasFlags, HasOptions, NamesFile, NamesLog}
 use Rattle.clap.specs.declared.error.kind.ErrorKind.{ErrorKind}
 use Rattle.clap.specs.declared.error.kind.ErrorKind.TheVariants.{DisplayHelp, DisplayVersion, OutOfMemory}
 use Rattle.batch_commands.specs.Commands.{batchctl_app}
 use Rattle.batch_commands.specs.declared.asked.Arguments.{Arguments}
-use Rattle.batch_commands.specs.declared.asked.Arguments.TheVariants.{Script, LoggedScript, Run}
+use Rattle.batch_commands.specs.declared.asked.Arguments.TheVariants.{Script, LoggedScript, Run, Check}
 
 -- ---- Numbers
 
@@ -219,11 +219,34 @@ takes_flags tags compact options words (inr (others, outside, inside)) taken =
     takes_flag (codes "--compact") compact others words outside (takes_flag (codes "--tags") tags options others inside taken.0 taken.1)
     (takes_inside (codes "--compact") (codes "--tags") tags options others inside taken.2 taken.4)
 
--- THE WORDS that ask for a script or a run are taken
+-- ---- A check
+
+takes_check : takes batchctl_app (codes "check" ∷ []) ≡ true
+unfolding clap_on_literals
+takes_check = refl
+
+takes_check_input : takes batchctl_app (codes "check" ∷ codes "-" ∷ []) ≡ true
+unfolding clap_on_literals
+takes_check_input = refl
+
+takes_check_file : (first : ℕ) (rest : List ℕ) → (first == 45) ≡ false → takes batchctl_app (codes "check" ∷ (first ∷ rest) ∷ []) ≡ true
+unfolding clap_on_literals
+takes_check_file first rest e = simp e
+
+takes_file : (file : Option (Bor (List ℕ))) (words : List (List ℕ)) → NamesFile file words → takes batchctl_app (codes "check" ∷ words) ≡ true
+takes_file None words (inl is) = ap (λ (ws : List (List ℕ)). takes batchctl_app (codes "check" ∷ ws)) is ∙ takes_check
+takes_file None words (inr is) = ap (λ (ws : List (List ℕ)). takes batchctl_app (codes "check" ∷ ws)) is ∙ takes_check_input
+takes_file (Some file) words ((first, rest, is, e), by) =
+    ap (λ (ws : List (List ℕ)). takes batchctl_app (codes "check" ∷ ws)) by
+    ∙ ap (λ (name : List ℕ). takes batchctl_app (codes "check" ∷ name ∷ [])) is
+    ∙ takes_check_file first rest e
+
+-- THE WORDS that ask for a script, a run or a check are taken
 pub asked_taken : (arguments : Arguments) (words : List (List ℕ)) → IsAsked arguments words → takes batchctl_app words ≡ true
 asked_taken Script words is = ap (takes batchctl_app) is ∙ takes_script
 asked_taken (LoggedScript log tags compact) words (named, (rest, options, is, has, names)) = ap (takes batchctl_app) is ∙ takes_flags tags compact options rest has (takes_log log.now options named names)
 asked_taken (Run workers) words (some, few, (rest, options, is, has, asks)) = ap (takes batchctl_app) is ∙ takes_rest workers rest options some few has asks
+asked_taken (Check file) words (rest, is, names) = ap (takes batchctl_app) is ∙ takes_file file rest names
 
 -- want of memory is no text that the words ask for
 pub not_shown : (kind : ErrorKind) → kind ≡ OutOfMemory → (kind ≡ DisplayHelp) ⊎ (kind ≡ DisplayVersion) → ⊥

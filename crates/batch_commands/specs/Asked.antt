@@ -1,8 +1,9 @@
 -- The commands that the words of the command line ask for.
-use Rattle.std.specs.Prelude.{◌≡◌, ◌⊎◌, ◌≤◌, ◌==◌, ℕ, Bool, true, false, List, [], ◌∷◌, ◌++◌, codes}
+use Rattle.std.specs.Prelude.{◌≡◌, ◌⊎◌, ◌≤◌, ◌==◌, ℕ, Bool, true, false, List, [], ◌∷◌, ◌++◌, codes, Option, Some, None}
+use Rattle.std.specs.Borrow.{Bor}
 use Rattle.std.specs.Str.Parse.{IsNumeral, digits_value, without_leading_plus}
 use Rattle.batch_commands.specs.declared.asked.Arguments.{Arguments}
-use Rattle.batch_commands.specs.declared.asked.Arguments.TheVariants.{Script, LoggedScript, Run}
+use Rattle.batch_commands.specs.declared.asked.Arguments.TheVariants.{Script, LoggedScript, Run, Check}
 
 -- the text of a number: its decimal digits, after an optional plus sign
 abbrev pub IsNumberText : List ℕ → ℕ → Type 0
@@ -19,7 +20,7 @@ AsksFor workers (word ∷ text ∷ other ∷ others) = ⊥
 abbrev pub HasOptions : List (List ℕ) → List (List ℕ) → Type 0
 HasOptions options words = (words ≡ options) ⊎ (words ≡ options ++ codes "--" ∷ [])
 
--- the name of a log's file isn't empty, and doesn't begin with a hyphen
+-- the name of a file isn't empty, and doesn't begin with a hyphen
 abbrev pub IsLogName : List ℕ → Type 0
 IsLogName name = (first : ℕ) × (rest : List ℕ) × (name ≡ first ∷ rest) × ((first == 45) ≡ false)
 
@@ -39,13 +40,23 @@ HasFlags tags compact options words =
     ((others : List (List ℕ)) × HasFlag (codes "--tags") tags others words × HasFlag (codes "--compact") compact options others)
     ⊎ ((others : List (List ℕ)) × HasFlag (codes "--compact") compact others words × HasFlag (codes "--tags") tags options others)
 
+-- words name a file to check, or the standard input by `-` or by no word
+abbrev pub NamesFile : Option (Bor (List ℕ)) → List (List ℕ) → Type 0
+NamesFile None words = (words ≡ []) ⊎ (words ≡ codes "-" ∷ [])
+NamesFile (Some file) words = IsLogName file.now × (words ≡ file.now ∷ [])
+
+-- words ask to check the file of this name
+abbrev pub AsksForFile : List ℕ → List (List ℕ) → Type 0
+AsksForFile name words = IsLogName name × (words ≡ codes "check" ∷ name ∷ [])
+
 -- one word asks for a script, and more words for one with a log. For a run, it is the first word; the options
--- ask for 1 to 16 workers
+-- ask for 1 to 16 workers. For a check, it is the first word, and the second one may name a file
 abbrev pub IsAsked : Arguments → List (List ℕ) → Type 0
 IsAsked Script words = words ≡ codes "script" ∷ []
 IsAsked (LoggedScript log tags compact) words = IsLogName log.now × ((rest : List (List ℕ)) × (options : List (List ℕ)) × (words ≡ codes "script" ∷ rest) × HasFlags tags compact options rest × NamesLog log.now options)
 IsAsked (Run workers) words = (1 ≤ workers) × (workers ≤ 16) × ((rest : List (List ℕ)) × (options : List (List ℕ)) × (words ≡ codes "run" ∷ rest) × HasOptions options rest × AsksFor workers options)
+IsAsked (Check file) words = (rest : List (List ℕ)) × (words ≡ codes "check" ∷ rest) × NamesFile file rest
 
--- the words ask for neither a script nor a run
+-- the words ask for no command
 abbrev pub AskForNone : List (List ℕ) → Type 0
 AskForNone words = (arguments : Arguments) → IsAsked arguments words → ⊥

@@ -31,6 +31,14 @@ script_app = with_rule (with_rule (with_rule (new_app (codes "script")) log_rule
 abbrev pub run_app : App
 run_app = with_rule (new_app (codes "run")) workers_rule
 
+-- the name of the file to check is a text
+abbrev pub file_rule : Rule
+file_rule = record (new_rule (codes "file")) { value_names = 1; parser = Some TextParser }
+
+-- the command `check`
+abbrev pub check_app : App
+check_app = with_rule (new_app (codes "check")) file_rule
+
 -- the program without its commands, of which one must follow its name
 abbrev pub bare_app : App
 bare_app = on_top (λ s. record s { has_version = true; no_binary_name = true; subcommand_required = true; arg_required_else_help = true }) (new_app (codes "batchctl"))
@@ -39,9 +47,13 @@ bare_app = on_top (λ s. record s { has_version = true; no_binary_name = true; s
 abbrev pub scripts_app : App
 scripts_app = with_subcommand bare_app script_app.top
 
+-- the program with only the commands `script` and `run`
+abbrev pub runs_app : App
+runs_app = with_subcommand scripts_app run_app.top
+
 -- the program
 abbrev pub batchctl_app : App
-batchctl_app = with_subcommand scripts_app run_app.top
+batchctl_app = with_subcommand runs_app check_app.top
 
 -- clap returns a text that the words ask for
 abbrev pub IsShown : Error → Type 0

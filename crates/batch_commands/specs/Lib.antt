@@ -7,5 +7,6 @@ pub mod Listing
 pub mod Runs
 pub mod Turns
 pub mod Logging
+pub mod Checks
 pub mod Statuses
 pub mod Devices

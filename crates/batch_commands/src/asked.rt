@@ -17,4 +17,9 @@ pub enum Arguments<'a> {
         /// The number of workers, 1 to 16.
         workers: u64,
     },
+    /// Checks a catalogue.
+    Check {
+        /// The name of its file, or `None` for the standard input.
+        file: Option<&'a str>,
+    },
 }

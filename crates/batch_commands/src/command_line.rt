@@ -1,12 +1,12 @@
 ghost use Rattle.std.specs.Prelude.{◌≡◌, ◌≤◌, ◌↔◌, ◌∷◌, ◌++◌, List, ℕ, [], false, IsTrue, IfOk, IfSome, IfErr, IsErrAnd, codes, map};
 ghost use Rattle.clap.specs.Words.{app_of, new_app, rule_of};
-ghost use Rattle.batch_commands.specs.Asked.{IsAsked, IsLogName, IsNumberText, AskForNone, AsksFor, HasFlag, HasFlags, HasOptions, NamesLog};
-ghost use Rattle.batch_commands.specs.Commands.{IsShown, bare_app, batchctl_app, compact_rule, log_rule, run_app, script_app, scripts_app, tags_rule, workers_rule};
+ghost use Rattle.batch_commands.specs.Asked.{IsAsked, IsLogName, IsNumberText, AskForNone, AsksFor, AsksForFile, HasFlag, HasFlags, HasOptions, NamesFile, NamesLog};
+ghost use Rattle.batch_commands.specs.Commands.{IsShown, bare_app, batchctl_app, check_app, compact_rule, file_rule, log_rule, run_app, runs_app, script_app, scripts_app, tags_rule, workers_rule};
 
 use crate::asked::Arguments;
 use crate::help::{
-    ABOUT, COMPACT_HELP, LOG_HELP, RUN_ABOUT, RUN_HELP, SCRIPT_ABOUT, SCRIPT_HELP, TAGS_HELP,
-    WORKERS_HELP,
+    ABOUT, CHECK_ABOUT, CHECK_HELP, COMPACT_HELP, FILE_HELP, LOG_HELP, RUN_ABOUT, RUN_HELP,
+    SCRIPT_ABOUT, SCRIPT_HELP, TAGS_HELP, WORKERS_HELP,
 };
 use clap::builder::ValueParser;
 use clap::error::ErrorKind;
@@ -38,8 +38,7 @@ fn behind<'a, 'b>(words: &'b [&'a str], command: &str) -> Option<&'b [&'a str]>
     }
 }
 
-/// Returns the text if it is the name of a log's file: it isn't empty, and doesn't begin with a
-/// hyphen.
+/// Returns the text if it is the name of a file: it isn't empty, and doesn't begin with a hyphen.
 fn log_named(name: &str) -> Option<&str>
     ensures { IfSome result (λ log. (log.now ≡ name.now) × IsLogName name.now) }
 {
@@ -58,6 +57,37 @@ fn log_of<'a>(words: &[&'a str]) -> Option<&'a str>
         [option, name] if *option == "--log" => log_named(name),
         _ => None,
     }
+}
+
+/// Returns the file to check that a word names, or `None` for the standard input.
+fn file_named(word: &str) -> Option<Option<&str>>
+    ensures { IfSome result (λ file. NamesFile file (word.now ∷ [])) }
+{
+    if word == "-" {
+        return Some(None);
+    }
+    let file = log_named(word)?;
+    Some(Some(file))
+}
+
+/// Returns the file to check that the words after `check` name, or `None` for the standard input.
+fn file_of<'a>(words: &[&'a str]) -> Option<Option<&'a str>>
+    ensures { IfSome result (λ file. NamesFile file (map (λ word. word.now) words.now)) }
+{
+    match words {
+        [] => Some(None),
+        [word] => file_named(word),
+        _ => None,
+    }
+}
+
+/// Returns the name of the file to check, if the words ask for that.
+pub(crate) fn file_to_check<'a>(words: &[&'a str]) -> Option<&'a str>
+    ensures { IfSome result (λ file. AsksForFile file.now (map (λ word. word.now) words.now)) }
+{
+    let rest = behind(words, "check")?;
+    let named = file_of(rest)?;
+    named
 }
 
 /// Returns the words without a flag at their begin or at their end, and whether there was one.
@@ -172,6 +202,10 @@ fn asked<'a>(matches: &ArgMatches<'_>, words: &[&'a str]) -> Option<Arguments<'a
         let log = log_of(options)?;
         return Some(Arguments::LoggedScript { log, tags, compact });
     }
+    if let Some(rest) = behind(words, "check") {
+        let file = file_of(rest)?;
+        return Some(Arguments::Check { file });
+    }
     let rest = behind(words, "run")?;
     let workers = workers_of(matches)?;
     if asks_for(options_of(rest), workers) {
@@ -250,6 +284,27 @@ fn run_command<'a>(alloc: Global) -> Result<Command<'a>, AllocError>
         .arg(workers_argument(alloc))
 }
 
+/// Returns the argument FILE of the command `check`.
+fn file_argument<'a>(alloc: Global) -> Arg<'a>
+    ensures rule { rule_of result ≡ file_rule }
+    ensures local { result.global ≡ false }
+{
+    Arg::new(alloc, "file")
+        .value_name("FILE")
+        .help(FILE_HELP)
+        .value_parser(ValueParser::string())
+}
+
+/// Returns the command `check`.
+fn check_command<'a>(alloc: Global) -> Result<Command<'a>, AllocError>
+    ensures { IfOk result (λ command. app_of command ≡ check_app) }
+{
+    Command::new(alloc, "check")
+        .about(CHECK_ABOUT)
+        .after_help(CHECK_HELP)
+        .arg(file_argument(alloc))
+}
+
 /// Parses the words that follow the program's name.
 ///
 /// These are accepted, and no others:
@@ -258,11 +313,12 @@ fn run_command<'a>(alloc: Global) -> Result<Command<'a>, AllocError>
 /// - `script` with a log by `--log FILE` or `--log=FILE`, whose name begins with no hyphen, and if
 ///   need be with `--tags` and `--compact`, each before or behind that
 /// - `run` with 1 to 16 workers, by `--workers N` or `--workers=N`, or with 2 by default
+/// - `check`, alone or with `-` or with the name of a file, which begins with no hyphen
 ///
 /// # Errors
 ///
 /// Returns `clap`'s error for other words, for a request for help or for the version, and if memory
-/// is refused. It is never a requested text if the words ask for a script or a run.
+/// is refused. It is never a requested text if the words ask for one of the commands.
 pub fn arguments<'a>(alloc: Global, words: &'a [&'a str]) -> Result<Arguments<'a>, Error>
     ensures only { IfOk result (λ arguments. IsAsked arguments (map (λ word. word.now) words.now)) }
     ensures shown { IfErr result (λ error. IsShown error → AskForNone (map (λ word. word.now) words.now)) }
@@ -309,13 +365,27 @@ fn command_of_scripts<'a>(alloc: Global) -> Result<Command<'a>, AllocError>
     }
 }
 
-/// Returns the program's command.
-fn batchctl_command<'a>(alloc: Global) -> Result<Command<'a>, AllocError>
-    ensures { IfOk result (λ command. app_of command ≡ batchctl_app) }
+/// Returns the program's command with the subcommands `script` and `run`.
+fn command_of_runs<'a>(alloc: Global) -> Result<Command<'a>, AllocError>
+    ensures { IfOk result (λ command. app_of command ≡ runs_app) }
 {
     let command = command_of_scripts(alloc)?;
     match run_command(alloc) {
         Ok(run) => command.subcommand(run),
+        Err(error) => {
+            drop(command);
+            Err(error)
+        }
+    }
+}
+
+/// Returns the program's command.
+fn batchctl_command<'a>(alloc: Global) -> Result<Command<'a>, AllocError>
+    ensures { IfOk result (λ command. app_of command ≡ batchctl_app) }
+{
+    let command = command_of_runs(alloc)?;
+    match check_command(alloc) {
+        Ok(check) => command.subcommand(check),
         Err(error) => {
             drop(command);
             Err(error)
@@ -344,6 +414,6 @@ fn refuse_others<'a>(command: &mut Command<'_>) -> Result<Arguments<'a>, Error>
 {
     Err(command.error(
         ErrorKind::InvalidSubcommand,
-        "`script`, if need be with a log, or `run` with 1 to 16 workers, is expected",
+        "`script`, if need be with a log, `run` with 1 to 16 workers, or `check` is expected",
     )?)
 }

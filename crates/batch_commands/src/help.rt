@@ -127,3 +127,28 @@ Example:
 
 Exit status: 0 done, 2 the command line was refused, 3 the catalogue was refused (its fault is the
 one line of output), 4 a read or a write failed, 5 out of memory."#;
+
+/// The purpose of `check`.
+pub const CHECK_ABOUT: &str =
+    "Checks a catalogue, and tells its first fault with the byte and the member";
+
+/// The purpose of the name of a file behind `check`.
+pub const FILE_HELP: &str = "The file to check; standard input if it is `-` or left out";
+
+/// The format of a check's output.
+pub const CHECK_HELP: &str =
+    r#"The first line of the file is the catalogue of jobs, as for `script` and `run`. What stands behind
+it is not looked at. One line is written. It is {"jobs":N} for a catalogue of N jobs, or the line of
+its fault as `script` writes it, with two members more:
+  "byte"    where the value begins that is wrong, or that lacks a member, in bytes from 0
+  "member"  the way to what is wrong or missing, as jobs[2].elements[0].next; "" is the whole value
+A line that is no JSON has neither, and so has one of more than 16777216 bytes.
+
+Example:
+  batchctl check <<'END'
+  {"jobs":[{"id":"nightly","elements":[{"kind":"step","id":"load","batchlet":{"ref":7}}]}]}
+  END
+writes {"byte":82,"element":0,"fault":"BadElement","job":0,"member":"jobs[0].elements[0].batchlet.ref"}
+
+Exit status: 0 the catalogue is good, 2 the command line was refused, 3 the catalogue was refused, 4
+a read or a write failed, or there is no such file, 5 out of memory."#;

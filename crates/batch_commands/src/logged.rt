@@ -34,7 +34,7 @@ use std::alloc::Global;
 use std::io::Write;
 
 /// Writes a line.
-fn put_line<W: Sink>(alloc: Global, line: &[u8], sink: &mut W) -> Result<(), EngineFault>
+pub(crate) fn put_line<W: Sink>(alloc: Global, line: &[u8], sink: &mut W) -> Result<(), EngineFault>
     ensures { PutsLine (W.tape sink.old) (W.tape sink.new) line.now result }
 {
     let mut output = OutputBuffer::new(alloc)?;

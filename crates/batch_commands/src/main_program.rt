@@ -2,13 +2,16 @@ ghost use Rattle.std.specs.Prelude.{◌≡◌, ◌≢◌, ◌≤◌, ◌⊎◌, 
 ghost use Rattle.std.specs.IoError.{error_kind};
 ghost use Rattle.script_lines.specs.Tape.{nothing_past, told_by, held_by};
 ghost use Rattle.script_engine.specs.Ran.{Ran};
+ghost use Rattle.batch_commands.specs.Asked.{AsksForFile};
 ghost use Rattle.batch_commands.specs.Commands.{IsShown};
+ghost use Rattle.batch_commands.specs.Checks.{HasChecked};
 ghost use Rattle.batch_commands.specs.Runs.{HasRun};
 ghost use Rattle.batch_commands.specs.Devices.{Devices, devices};
-ghost use Rattle.batch_commands.specs.Statuses.{exit_status, IsServed};
+ghost use Rattle.batch_commands.specs.Statuses.{exit_status, IsServed, IsServedWithFiles, IsFileCheck};
 
 use crate::asked::Arguments;
-use crate::command_line::arguments;
+use crate::check::check_first;
+use crate::command_line::{arguments, file_to_check};
 use crate::logged::serve_logged;
 use crate::run::run_jobs;
 use crate::sink_writer::SinkWriter;
@@ -116,6 +119,27 @@ fn serve_script<S: Source, W: Sink, F: Write>(
     end(outcome, faults)
 }
 
+/// Checks a catalogue, and returns the exit status.
+fn serve_check<S: Source, W: Sink, F: Write>(
+    alloc: Global,
+    source: &mut S,
+    sink: &mut W,
+    faults: &mut F,
+) -> u8
+    ensures { (outcome : _) × HasChecked (S.tape source.old) (S.tape source.new) (W.tape sink.old) (W.tape sink.new) outcome × (result ≡ exit_status outcome) }
+{
+    let outcome = check_first(alloc, source, sink);
+    end(outcome, faults)
+}
+
+/// Says that there is no file to read, and returns the exit status.
+fn refuse_file<F: Write>(faults: &mut F) -> u8
+    ensures { result ≡ DEVICE_FAILED }
+{
+    tell(faults, "batchctl: read fault");
+    DEVICE_FAILED
+}
+
 /// Writes the text that the words asked for, and returns the exit status.
 fn tell_text<W: Sink, F: Write>(error: &Error, sink: &mut W, faults: &mut F) -> u8
     ensures { (result ≡ DONE) ⊎ (result ≡ DEVICE_FAILED) }
@@ -173,6 +197,14 @@ pub fn serve<
             let status = serve_run(rt, workers, source, &mut sink, faults);
             (status, disk, sink)
         }
+        Ok(Arguments::Check { file: None }) => {
+            let status = serve_check(alloc, source, &mut sink, faults);
+            (status, disk, sink)
+        }
+        Ok(Arguments::Check { file: Some(_) }) => {
+            let status = refuse_file(faults);
+            (status, disk, sink)
+        }
         Err(error) => {
             let status = tell_words(&error, &mut sink, faults);
             drop(error);
@@ -211,6 +243,8 @@ fn program_over<
 /// - 5: memory was refused
 /// - 6: the words ask for a log. It has no files: [`program_with_files`] opens logs
 ///
+/// A file to check can't be read either: that is status 4.
+///
 /// The text for standard error is written to `faults`.
 pub fn program<R: Threads + Wait + AllocGlobal + Sync, D: Read + Drop, W: Write + Drop, F: Write>(
     rt: &R,
@@ -225,12 +259,31 @@ pub fn program<R: Threads + Wait + AllocGlobal + Sync, D: Read + Drop, W: Write 
     program_over(rt, NoDisk::new(), words, reader, writer, faults)
 }
 
+// Checks a file, as if it were the standard input.
+fn check_file<
+    R: Threads + Wait + AllocGlobal + Files<File = File> + Sync,
+    K: Disk + Drop,
+    W: Write + Drop,
+    F: Write,
+>(rt: &R, disk: K, words: &[&str], file: &str, writer: W, faults: &mut F) -> u8
+    requires fresh_disk { K.past disk ≡ [] }
+    requires asked { AsksForFile file.now (map (λ word. word.now) words.now) }
+    ensures { IsFileCheck (map (λ word. word.now) words.now) (held_by nothing_past (W.contents writer)) result }
+{
+    match File::open(rt, file) {
+        Ok(opened) => program_over(rt, disk, &["check"], opened, writer, faults),
+        Err(_) => refuse_file(faults),
+    }
+}
+
 /// Runs the program with the files of the runtime, as [`program`] does without them, and returns
 /// the exit status:
 ///
 /// - 0 to 5: as [`program`]
 /// - 6: the file of a log failed
 /// - 7: a log was refused, and the line of its fault is written to `writer`
+///
+/// A file to check is read in place of `reader`. The status is 4 if it can't be opened.
 ///
 /// The text for standard error is written to `faults`.
 pub fn program_with_files<
@@ -239,9 +292,12 @@ pub fn program_with_files<
     W: Write + Drop,
     F: Write,
 >(rt: &R, words: &[&str], reader: D, writer: W, faults: &mut F) -> u8
-    ensures { (after : Devices) × IsServed (map (λ word. word.now) words.now)
-        (devices (told_by nothing_past (D.remaining reader)) (held_by nothing_past (W.contents writer)) []) after result }
+    ensures { IsServedWithFiles (map (λ word. word.now) words.now)
+        (told_by nothing_past (D.remaining reader)) (held_by nothing_past (W.contents writer)) result }
 {
     let disk = SystemDisk::new(rt, rt.alloc());
-    program_over(rt, disk, words, reader, writer, faults)
+    match file_to_check(words) {
+        Some(file) => check_file(rt, disk, words, file, writer, faults),
+        None => program_over(rt, disk, words, reader, writer, faults),
+    }
 }

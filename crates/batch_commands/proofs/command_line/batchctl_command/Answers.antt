@@ -6,5 +6,5 @@ use Rattle.batch_commands.proofs.command_line.batchctl_command.Goals as goal
 
 pub returns-in-Ok : goal.returns-in-Ok
 returns-in-Ok c =
-    let run = c.in-Ok.ensures in
-    IfOk-weaker c.subcommand.result _ _ (λ command adds. adds.shape (no_globals _ (ap (λ (a : App). a.top.is_plain) run)) ∙ ap₂ with_subcommand c.in_ok-command.ensures (ap (λ (a : App). a.top) run)) c.subcommand.ensures
+    let check = c.in-Ok.ensures in
+    IfOk-weaker c.subcommand.result _ _ (λ command adds. adds.shape (no_globals _ (ap (λ (a : App). a.top.is_plain) check)) ∙ ap₂ with_subcommand c.in_ok-command.ensures (ap (λ (a : App). a.top) check)) c.subcommand.ensures
