@@ -25,6 +25,7 @@ from pathlib import Path
 from typing import Any, NamedTuple
 
 import aiohttp
+import psutil
 
 SERVICE = Path(__file__).resolve().parents[1] / "service"
 sys.path.insert(0, str(SERVICE))
@@ -42,7 +43,6 @@ CATALOGUE = {"jobs": [{"id": "one", "elements": [{"kind": "step", "id": "a", "ba
 ARTIFACTS = [f"artifact-{number}" for number in range(20)]
 TELL_SECONDS = 60.0
 PLACES = ("embedded", "PostgreSQL")
-TICKS = os.sysconf("SC_CLK_TCK")
 
 
 class Usage(NamedTuple):
@@ -53,10 +53,9 @@ class Usage(NamedTuple):
 
 
 def usage_of(processes: list[int]) -> Usage:
-    stats = [Path(f"/proc/{one}/stat").read_text().rpartition(")")[2].split() for one in processes]
-    ticks = sum(int(stat[11]) + int(stat[12]) for stat in stats)
-    pages = sum(int(stat[21]) for stat in stats)
-    return Usage(ticks / TICKS, pages * os.sysconf("SC_PAGE_SIZE") / 2**20)
+    ours = [psutil.Process(one) for one in processes]
+    times = [one.cpu_times() for one in ours]
+    return Usage(sum(one.user + one.system for one in times), sum(one.memory_info().rss for one in ours) / 2**20)
 
 
 class Fleet:

@@ -32,6 +32,7 @@ from typing import Any
 
 import aiohttp
 import asyncpg
+import psutil
 
 SERVICE = Path(__file__).resolve().parents[1] / "service"
 sys.path.insert(0, str(SERVICE))
@@ -118,8 +119,8 @@ async def measure_service(name: str, service: Process, count: int, seconds: floa
 
 def processor_seconds(number: int) -> float:
     """The seconds of the processor that a process has had."""
-    told = Path(f"/proc/{number}/stat").read_text().rpartition(")")[2].split()
-    return (int(told[11]) + int(told[12])) / os.sysconf("SC_CLK_TCK")
+    times = psutil.Process(number).cpu_times()
+    return float(times.user + times.system)
 
 
 async def run_sql(repository: SqlRepository, times: list[float]) -> None:

@@ -32,7 +32,7 @@ else
 fi
 [ -z "$has_postgres" ] || packages="$packages python3-asyncpg postgresql"
 [ -z "$is_development" ] || packages="$packages python3-pytest python3-pytest-asyncio black flake8 mypy openssl
-chromium chromium-driver eslint python3-selenium python3-jsonschema python3-yaml curl git iproute2"
+chromium chromium-driver eslint python3-selenium python3-jsonschema python3-psutil python3-yaml curl git iproute2"
 missing=
 for package in $packages "$@"; do
     [ "$(dpkg-query -W -f '${db:Status-Status}' "$package" 2>/dev/null || true)" = installed ] || missing="$missing $package"

@@ -39,7 +39,7 @@ sys.path.insert(0, str(Path(__file__).resolve().parent / "tests"))
 
 from instances import Answer, Caller, Process  # noqa: E402
 from job_versions import job_file, write_jobs  # noqa: E402
-from postgres_server import PostgresServer  # noqa: E402
+from postgres_server import PostgresServer, children_of  # noqa: E402
 from soak_check import Wrong  # noqa: E402
 
 from job_host.commands.program import find_batchctl  # noqa: E402
@@ -105,8 +105,8 @@ class Part:
 
     def batchctl(self) -> int | None:
         """The batchctl that the service has started last."""
-        children = Path(f"/proc/{self.service.number}/task/{self.service.number}/children").read_text().split()
-        return int(children[-1]) if children else None
+        children = children_of(self.service.number)
+        return children[-1] if children else None
 
     async def kill(self, chance: random.Random) -> str:
         """Kills batchctl, or the service, which is started again."""

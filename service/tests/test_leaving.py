@@ -242,27 +242,50 @@ async def test_a_refused_compaction_lets_nothing_leave(kept: ServeSettings, requ
         assert (await compact(instance)).failure == "" and ids(instance) == ["short", "nightly@3", "nightly@4"]
 
 
+async def until_waiting(turn: asyncio.Lock, count: int) -> None:
+    """Returns as soon as so many wait for the turn."""
+
+    async def are_waiting() -> bool:
+        return len(cast(Any, turn)._waiters or ()) == count
+
+    await until(are_waiting)
+
+
 async def test_a_start_on_its_way_keeps_its_version(served: ServeSettings) -> None:
     """It was the newest as the call came. Then its job is withdrawn, and the history is compacted."""
     async with running(served) as instance:
         caller = Caller(instance.url)
         await caller.start("short")
-        turn = cast(Any, engine_of(instance).turn)
-
-        async def wait(count: int) -> bool:
-            return len(turn._waiters or ()) == count
-
+        turn = engine_of(instance).turn
         async with turn:
             starting = asyncio.create_task(caller.start(day="later"))
-            await until(lambda: wait(1))
+            await until_waiting(turn, 1)
             assert brief(await withdrawn(caller)) == (200, 1, True)
             making = asyncio.create_task(compact(instance))
-            await until(lambda: wait(2))
+            await until_waiting(turn, 2)
         assert (await starting).status == 201 and (await making).failure == ""
         assert ids(instance) == ["nightly", "short"] == await jobs_of(served)
     async with running(served) as instance:
         caller = Caller(instance.url)
         assert await caller.status(2) == "STARTING" and (await caller.start()).name == "JobWithdrawn"
+
+
+async def test_no_job_is_changed_while_a_compaction_looks_what_may_leave(served: ServeSettings) -> None:
+    """A job that is withdrawn meanwhile is withdrawn after the compaction has begun, and leaves by the next one."""
+    async with running(served) as instance:
+        caller = Caller(instance.url)
+        await caller.start("short")
+        turn = engine_of(instance).turn
+        async with turn:
+            making = asyncio.create_task(compact(instance))
+            await until_waiting(turn, 1)
+            withdrawing = asyncio.create_task(withdrawn(caller))
+            await asyncio.wait([withdrawing], timeout=0.5)
+            assert not withdrawing.done()
+        assert (await making).failure == "" and brief(await withdrawing) == (200, 1, True)
+        assert ids(instance) == ["nightly", "short"]
+        await caller.start("short", day="later")
+        assert (await compact(instance)).failure == "" and ids(instance) == ["short"]
 
 
 async def test_starts_and_changes_beside_a_compaction(served: ServeSettings) -> None:
