@@ -277,6 +277,25 @@ async def test_two_instances_make_one_base_under_load(basing: Make, monkeypatch:
         assert engine_of(one).entered == count and len(await executions(Caller(one.url), "?pageSize=1000")) == count
 
 
+async def test_a_base_that_another_instance_has_made_meanwhile_is_no_failure(
+    basing: Make, monkeypatch: pytest.MonkeyPatch
+) -> None:
+    """It stands for operations that this instance was about to read."""
+    operations, made = PostgresBases.operations, basing()
+    async with running(made) as one, running(made, "follower") as two:
+        await make_history(one.url)
+        await settle(one, two)
+
+        async def after_the_other(bases: PostgresBases, before: int, most: int) -> Any:
+            monkeypatch.setattr(PostgresBases, "operations", operations)
+            assert (await compact(two)).failure == ""
+            return await operations(bases, before, most)
+
+        monkeypatch.setattr(PostgresBases, "operations", after_the_other)
+        assert (await compact(one)).failure == ""
+        assert await bases_in(made) == [(14, 1)] and engine_of(one).based == engine_of(two).based == 14
+
+
 async def test_two_bases_of_as_many_operations_have_the_same_bytes(basing: Make, monkeypatch: pytest.MonkeyPatch) -> None:
     """Of two that began with the same one, the second changes nothing. In small parts they are the same, too."""
     monkeypatch.setattr(bases_module, "PART_BYTES", 700)

@@ -5,6 +5,7 @@ from __future__ import annotations
 import asyncio
 import logging
 from collections.abc import Awaitable, Callable, Sequence
+from contextlib import suppress
 from pathlib import Path
 from typing import NamedTuple
 
@@ -15,7 +16,7 @@ from job_host.service.history.log_file import KnownBase
 from job_host.service.keepers.batchctl_compact import COMPACT, reason
 from job_host.service.keepers.local_logs import CatalogueGrew, LocalLogs
 from job_host.service.stores.local_files import LocalFiles
-from job_host.service.stores.postgres_bases import Done, KeptBase, Made, PostgresBases
+from job_host.service.stores.postgres_bases import BaseGone, Done, KeptBase, Made, PostgresBases
 
 log = logging.getLogger(__name__)
 
@@ -51,25 +52,33 @@ class BaseMaking:
         """Makes a base of the operations up to `until`, all of which are kept. Returns the newest base at the end.
 
         That is another one if another instance has made it meanwhile. The table is as it was if this raises: what LOST has,
-        NoPrimary, NotCompacted, BaseDamaged, BaseGone, OperationsMissing, CoProcessEnded, CatalogueRefused, CatalogueGrew,
+        NoPrimary, NotCompacted, BaseDamaged, OperationsMissing, CoProcessEnded, CatalogueRefused, CatalogueGrew,
         ReplayDiffers, OSError or a problem. If batchctl lets no job leave the catalogue, the base is over that as it was.
         """
         bases = await PostgresBases.open(self._dsns)
         path: Path | None = None
         try:
             path = self._files.new()
-            before, history = await bases.newest(), await bases.history()
-            since = 0 if before is None else before.number
-            if since < until:
-                known, is_lean = await self._made(bases, before, catalogue, until, path, plan)
-                done, gone = await done_between(engine, since, until)
-                put = plan.put if plan is not None and is_lean else self._put
-                await put(bases, Made(known, before, history, path, done, gone))
+            # Another instance may have made one meanwhile, in place of what this one reads.
+            with suppress(BaseGone):
+                await self._make(bases, engine, until, catalogue, path, plan)
             return await bases.newest()
         finally:
             bases.close()
             if path is not None:
                 self._files.drop(path)
+
+    async def _make(
+        self, bases: PostgresBases, engine: Engine, until: int, catalogue: bytes, path: Path, plan: LeanPlan | None
+    ) -> None:
+        """Makes a base, and keeps it, if the newest one has fewer operations. Raises BaseGone if that is no longer there."""
+        before, history = await bases.newest(), await bases.history()
+        since = 0 if before is None else before.number
+        if since < until:
+            known, is_lean = await self._made(bases, before, catalogue, until, path, plan)
+            done, gone = await done_between(engine, since, until)
+            put = plan.put if plan is not None and is_lean else self._put
+            await put(bases, Made(known, before, history, path, done, gone))
 
     async def _made(
         self, bases: PostgresBases, before: KeptBase | None, catalogue: bytes, until: int, path: Path, plan: LeanPlan | None
