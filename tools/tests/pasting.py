@@ -49,6 +49,7 @@ INSTEAD = {
     # These measure for minutes or hours. The first one's shell is in the folder of the page's night.
     "service/install.sh --development": 'cd "$OLDPWD" && service/install.sh --development',
     "benches/service_calls.py": "benches/service_calls.py --help > /dev/null",
+    "benches/write_counts.py": "benches/write_counts.py --help > /dev/null",
     "benches/waiting_slots.py": "benches/waiting_slots.py --help > /dev/null",
     "benches/fleet.py": "benches/fleet.py --help > /dev/null",
     "service/check_catalogues.py": "service/check_catalogues.py --help > /dev/null",
