@@ -86,6 +86,8 @@ BEARER = """(async () => {
 })()"""
 REQUESTS: list[tuple[str, Any]] = [
     (SEEN, ["0", "7", "7", "7"]),
+    ("both([1, 5], [2, 3, 4])", [2, 5, 4]),
+    ("numbersIn('12,0,7')", [12, 0, 7]),
     (
         AGAIN,
         [
@@ -451,9 +453,11 @@ PLANTS = {
         ("dom.js", 'if (!rows.length) return element("p", { class: "empty" }, empty);', ""),
     ],
     "service.js": [
-        ("service.js", 'TAB, "Batch-At-Least": String(seen) });\n}', 'TAB, "Batch-At-Least": "0" });\n}'),
-        ("service.js", 'TAB, "Batch-At-Least": String(seen) });\n  const', "TAB });\n  const"),
-        ("service.js", "seen = Math.max(seen, ", "seen = Math.max(0, "),
+        ("service.js", 'TAB, "Batch-At-Least": seenText() });\n}', 'TAB, "Batch-At-Least": "0" });\n}'),
+        ("service.js", 'TAB, "Batch-At-Least": seenText() });\n  const', "TAB });\n  const"),
+        ("service.js", "seen = both(seen, ", "seen = both([], "),
+        ("service.js", "Math.max(one.length, other.length)", "one.length"),
+        ("service.js", 'text.split(",").map(Number)', "[Number.parseInt(text, 10)]"),
         ("service.js", '"Idempotency-Key": key', '"Idempotency-Key": requestKey()'),
         ("service.js", "forgeryToken = found[1]", "forgeryToken = found[0]"),
         ("service.js", "`Bearer ${token}`", "token"),

@@ -19,6 +19,7 @@ import aiohttp
 from job_host.protocol.headers import AT_LEAST, CLIENT, OPERATIONS, REQUEST_KEY
 from job_host.protocol.peers import notice_gone
 from job_host.protocol.problem_statuses import LASTING, PASSING
+from job_host.protocol.seen import NOTHING, Seen, both, read_seen, written
 
 PAUSE = 0.2
 LONGEST_PAUSE = 2.0
@@ -83,7 +84,7 @@ class Client:
     def __init__(self, address: Address, note: Callable[[str], None] = lambda text: None) -> None:
         self._address = address
         self._note = note
-        self._seen = 0
+        self._seen: Seen = NOTHING
         self._urls = [url.rstrip("/") for url in address.urls]
         self._place = 0
         self._sessions: list[aiohttp.ClientSession] = []
@@ -155,7 +156,7 @@ class Client:
         self, method: str, path: str, body: Any, key: str | None, wait: float, attempt: float, is_again: bool
     ) -> Any:
         """Asks one instance. A second attempt has a connection of its own, since a kept one may be cut without a word."""
-        headers = {AT_LEAST: str(self._seen)} if key is None else {REQUEST_KEY: key}
+        headers = {AT_LEAST: written(self._seen)} if key is None else {REQUEST_KEY: key}
         url = self._urls[self._place] + path
         limit = aiohttp.ClientTimeout(total=attempt + wait, sock_connect=min(CONNECT_SECONDS, attempt))
         session = self._sessions[is_again]
@@ -166,7 +167,7 @@ class Client:
             text = await response.text()
             if response.status >= 400:
                 raise Refused(response.status, document_of(text))
-            self._seen = max(self._seen, int(response.headers.get(OPERATIONS, "0")))
+            self._seen = both(self._seen, read_seen(response.headers.get(OPERATIONS, "0")))
             return json.loads(text) if response.content_type == "application/json" else text
 
 

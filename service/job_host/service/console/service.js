@@ -14,7 +14,8 @@ const TAB = `console-${requestKey().slice(0, 8)}`;
 // What an answer has beside its body.
 const HEAD_CHARACTERS = 300;
 
-let seen = 0;
+// How many operations of each queue were seen.
+let seen = [];
 let taken = 0;
 let forgeryToken = document.querySelector("meta[name=forgery-token]").content;
 
@@ -48,6 +49,18 @@ function headers(more) {
   return { "Batch-Client": "console", ...(token ? { Authorization: `Bearer ${token}` } : {}), ...more };
 }
 
+export function numbersIn(text) {
+  return text.split(",").map(Number);
+}
+
+// All that either of them saw.
+export function both(one, other) {
+  const length = Math.max(one.length, other.length);
+  return Array.from({ length }, (_, place) => Math.max(one[place] || 0, other[place] || 0));
+}
+
+const seenText = () => seen.join(",") || "0";
+
 async function documentOf(response) {
   try {
     return await response.json();
@@ -63,7 +76,7 @@ async function ask(method, path, body, more) {
   const response = await fetch(path, { method, headers: given, body: text, cache: "no-store" });
   if (response.status === 401) throw new TokenNeeded();
   if (!response.ok) throw new Refused(response.status, await documentOf(response));
-  seen = Math.max(seen, Number(response.headers.get("Batch-Operations") || 0));
+  seen = both(seen, numbersIn(response.headers.get("Batch-Operations") || "0"));
   const answer = await response.text();
   taken += answer.length + HEAD_CHARACTERS;
   return JSON.parse(answer);
@@ -76,12 +89,12 @@ export function charactersTaken() {
 
 export function read(path, parameters = {}) {
   const query = new URLSearchParams(parameters).toString();
-  return ask("GET", query ? `${path}?${query}` : path, null, { "Batch-Client": TAB, "Batch-At-Least": String(seen) });
+  return ask("GET", query ? `${path}?${query}` : path, null, { "Batch-Client": TAB, "Batch-At-Least": seenText() });
 }
 
 // A text as it is, and no document.
 export async function readText(path) {
-  const given = headers({ "Batch-Client": TAB, "Batch-At-Least": String(seen) });
+  const given = headers({ "Batch-Client": TAB, "Batch-At-Least": seenText() });
   const response = await fetch(path, { headers: given, cache: "no-store" });
   if (response.status === 401) throw new TokenNeeded();
   if (!response.ok) throw new Refused(response.status, await documentOf(response));
