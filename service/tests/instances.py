@@ -35,6 +35,8 @@ class Answer:
     status: int
     told: Any
     operations: int | None
+    # The same as it came: with several queues it may have a number for each.
+    seen: str = ""
 
     @property
     def name(self) -> str:
@@ -60,9 +62,9 @@ class Caller:
         async with self._session() as session:
             async with session.request(method, self.url + path, headers=given, **sent) as response:
                 text = await response.text()
-                operations = response.headers.get("Batch-Operations")
+                operations = response.headers.get("Batch-Operations", "")
                 told = json.loads(text) if "json" in response.content_type else text
-                return Answer(response.status, told, int(operations) if operations else None)
+                return Answer(response.status, told, int(operations) if operations.isdecimal() else None, operations)
 
     @asynccontextmanager
     async def _session(self) -> AsyncIterator[aiohttp.ClientSession]:
@@ -141,7 +143,7 @@ class Instance:
         async def has_role() -> bool:
             if self._keeping is not None and self._keeping.done():
                 self._keeping.result()
-            return self.service.keeper.role in roles
+            return self.service.queues.role in roles
 
         await until(has_role, longest=SHORT_PAUSE)
 
@@ -162,7 +164,7 @@ class Instance:
     async def stop(self) -> None:
         assert self._keeping is not None
         await self.service.end_serving()
-        await self.service.keeper.close()
+        await self.service.queues.close()
         await asyncio.wait([self._keeping], timeout=READY_SECONDS)
         if self._keeping.done() and not self._keeping.cancelled():
             self._keeping.exception()

@@ -92,7 +92,9 @@ class PostgresServer:
         """Ends each connection to a database, and drops all that it has."""
         others = f"datname = '{database}' and pid <> pg_backend_pid()"
         end = f"select pg_terminate_backend(pid) from pg_stat_activity where {others}"
-        self.sql(f"{end}; set client_min_messages = error; drop schema public cascade; create schema public", database)
+        queues = "drop schema if exists job_host_queue_1, job_host_queue_2 cascade"
+        schema = "drop schema public cascade; create schema public"
+        self.sql(f"{end}; set client_min_messages = error; {queues}; {schema}", database)
 
     def make_standby(self, port: int | None = None, **options: str) -> PostgresServer:
         """A standby of this server, which streams from it. It is started."""

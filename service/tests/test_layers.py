@@ -25,9 +25,9 @@ MAY_IMPORT: Mapping[str, Set[str]] = {
 }
 # The folders and modules of the part `service`. Each may import what stands before it.
 ORDER_OF_SERVICE = (
-    *("pages", "problems", "settings"),
-    *("history", "versions", "terms", "stores", "keepers", "http", "routes"),
-    *("retention", "policies", "metrics", "server"),
+    *("pages", "ids", "problems", "settings"),
+    *("history", "versions", "terms", "stores", "keepers", "queues", "http", "routes"),
+    *("retention", "policies", "metrics", "making", "server"),
 )
 
 Graph = Mapping[str, Set[str]]

@@ -71,7 +71,10 @@ def test_each_problem_is_one_of_the_table() -> None:
 
 def test_the_page_has_each_metric() -> None:
     told = {name for cells in rows() for name in names_in(cells[0]) if name.startswith("jobhost_")}
-    families = list(Metrics(LOG_BOUNDS).registry.collect())
+    metrics = Metrics(LOG_BOUNDS)
+    # Those of several queues, which aren't told otherwise.
+    assert len(metrics.each_queue) == 2
+    families = list(metrics.registry.collect())
     assert told == {family.name + ("_total" if family.type == "counter" else "") for family in families}
 
 

@@ -12,6 +12,7 @@ import json
 import os
 import re
 import stat
+from collections import Counter
 from collections.abc import Collection, Iterator, Sequence
 from dataclasses import dataclass, field, replace
 from pathlib import Path
@@ -22,6 +23,7 @@ from job_host.catalogue.file import CatalogueFile, catalogue_of, read_json, tran
 from job_host.catalogue.jobs import ForWorkers, JobFile, JobsRefused, ServedJobs, SettingsFile, as_it_is
 from job_host.catalogue.jsl_steps import StepsTranslator
 from job_host.catalogue.members import MemberFinder
+from job_host.catalogue.queues import DEFAULT_QUEUE
 from job_host.catalogue.settings import SUFFIX, SettingsFinder, job_file_of, settings_of
 from job_host.catalogue.structure import MOST_JOBS
 from job_host.catalogue.text import MOST_LINE_BYTES, Members, plain
@@ -108,10 +110,13 @@ class JobFolder:
 
     def look_at_all(self) -> None:
         """Refuses what no file has by itself: no job at all, too many jobs, and two jobs of one id."""
-        first_with = dict[str, str]()
-        for number, (file, job) in enumerate(self.jobs()):
-            if number == MOST_JOBS:
-                self.refuse(file, "TooMany", job, f"at most {MOST_JOBS} jobs in the folder", "one more")
+        first_with, counts = dict[str, str](), Counter[str]()
+        for file, job in self.jobs():
+            queue = self.queue_of(job)
+            counts[queue] += 1
+            if counts[queue] == MOST_JOBS + 1:
+                where = "the folder" if queue == DEFAULT_QUEUE else f"the queue {shown(queue)}"
+                self.refuse(file, "TooMany", job, f"at most {MOST_JOBS} jobs in {where}", "one more")
             if job.id is not None and is_reserved(job.id):
                 self.refuse(file, "ReservedId", job, UNRESERVED, shown(job.id))
             place = f"{file.source.name}:{file.source.place(job.value.at)}"
@@ -121,8 +126,33 @@ class JobFolder:
                 self.refuse(file, "DuplicateId", job, "an id that no earlier job of the folder has", found)
         if not self.files and not self.beside:
             self.beside.append(f"{self.path}: there is no file *{JSL_SUFFIX} or *{JSON_SUFFIX}")
-        elif not self.refused and len(self.line) > MOST_LINE_BYTES:
+        elif not self.refused and any(len(self.part(queue).line) > MOST_LINE_BYTES for queue in self.queues):
             self.beside.append(f"{self.path}: the catalogue of all files has more than {MOST_LINE_BYTES} bytes")
+
+    def queue_of(self, job: Job) -> str:
+        """The queue of a job, by its settings."""
+        return self.for_workers.get(job.id or "", ForWorkers()).policies.queue
+
+    @property
+    def queues(self) -> list[str]:
+        """The queues of the jobs, each once."""
+        return list(dict.fromkeys(self.queue_of(job) for _, job in self.jobs()))
+
+    def part(self, queue: str) -> JobFolder:
+        """The files whose jobs are of one queue: a file with several jobs has no settings, so all are of the default one."""
+        files = [
+            one for one in self.files if queue in {self.queue_of(job) for job in jobs_of_file(one)} or not jobs_of_file(one)
+        ]
+        names = {job.id for file in files for job in jobs_of_file(file)}
+        for_workers = {name: one for name, one in self.for_workers.items() if name in names}
+        return JobFolder(self.path, files, [], for_workers, {name: self.sources[name] for name in for_workers})
+
+    def look_at_queues(self, known: Collection[str]) -> None:
+        """Refuses a job whose queue isn't one of these."""
+        for file, job in self.jobs():
+            settings = self.sources[job.id].settings if job.id is not None else None
+            if settings is not None and self.queue_of(job) not in known:
+                self.beside.append(unknown_queue(str(settings_of(Path(file.source.name))), self.queue_of(job), known))
 
     @property
     def line(self) -> bytes:
@@ -135,6 +165,13 @@ class JobFolder:
         if self.refused:
             raise JobsRefused(self.refused)
         return ServedJobs(self.line, self.told_fault, self.for_workers, self.sources)
+
+    def served_by_queues(self, known: Collection[str]) -> dict[str, ServedJobs]:
+        """The jobs of each of these queues, also of those that have none. Raises JobsRefused."""
+        self.look_at_queues(known)
+        if self.refused:
+            raise JobsRefused(self.refused)
+        return {queue: self.part(queue).served() for queue in known}
 
     def told_fault(self, answer: bytes) -> str:
         """A fault of the whole catalogue, as batchctl names it, at its place in the file of its job."""
@@ -191,6 +228,11 @@ def settings_beside(path: Path) -> SettingsFile | None:
     if path.suffix != JSL_SUFFIX or not os.path.lexists(beside):
         return None
     return SettingsFile(str(beside), bytes_of(beside))
+
+
+def unknown_queue(settings: str, queue: str, known: Collection[str]) -> str:
+    """What is told of a queue that the service hasn't."""
+    return f"{settings}: expected a queue of this service, which are {', '.join(known)} (--queues), found {shown(queue)}"
 
 
 def unowned(path: Path) -> str:

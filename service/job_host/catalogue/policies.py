@@ -5,6 +5,7 @@ from __future__ import annotations
 from dataclasses import dataclass
 
 from job_host.catalogue.patterns import matches
+from job_host.catalogue.queues import DEFAULT_QUEUE
 from job_host.catalogue.schedules import Schedule
 
 USUAL_RESTARTS = 3
@@ -42,11 +43,16 @@ class JobTimeout:
 
 @dataclass(frozen=True)
 class JobPolicies:
-    """The policies of one version of a job. What isn't there isn't done."""
+    """The policies of one version of a job. What isn't there isn't done.
+
+    With `one_at_a_time` nothing of the job is started or restarted while a job execution of it isn't finished.
+    """
 
     restart: RestartPolicy | None = None
     timeout: JobTimeout | None = None
     schedule: Schedule | None = None
+    queue: str = DEFAULT_QUEUE
+    one_at_a_time: bool = False
 
 
 NO_POLICIES = JobPolicies()

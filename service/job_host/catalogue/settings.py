@@ -1,6 +1,7 @@
 """The settings of a job, in a file `NAME.settings.json` beside its file `NAME.xml`: what JSL has no word for.
 
-They say the time of steps, and what the leader does by itself. It is JSON, whose places are told as those of a job file.
+They say the job's queue, the time of steps, and what the leader does by itself. It is JSON, whose places are told as those of a
+job file.
 """
 
 from __future__ import annotations
@@ -11,6 +12,7 @@ from job_host.catalogue.faults import NOT_JSON, NOBODY, Fault, Note, Owner
 from job_host.catalogue.jobs import Steps
 from job_host.catalogue.policies import JobPolicies
 from job_host.catalogue.policy_settings import GRACE, RESTART, TIMEOUT, read_restart, read_timeout
+from job_host.catalogue.queues import DEFAULT_QUEUE, NAME, NAMED
 from job_host.catalogue.schedule_settings import SCHEDULE, ScheduleReader
 from job_host.catalogue.settings_reader import SettingsReader
 from job_host.catalogue.text import NotJson, Reader, Source, Value, decoded
@@ -18,7 +20,8 @@ from job_host.catalogue.tree import Job
 
 SUFFIX = ".settings.json"
 SETTINGS = "settings"
-STEPS = "steps"
+STEPS, QUEUE, ONE_AT_A_TIME = "steps", "queue", "oneAtATime"
+MEMBERS = (STEPS, TIMEOUT, GRACE, RESTART, SCHEDULE, QUEUE, ONE_AT_A_TIME)
 
 
 def settings_of(path: Path) -> Path:
@@ -59,12 +62,20 @@ class SettingsFinder:
             steps.setdefault(name, {})[TIMEOUT] = seconds
 
     def _read(self, root: Value) -> None:
-        told = self._reader.members(root, self._job.owner(), "the settings", (STEPS, TIMEOUT, GRACE, RESTART, SCHEDULE))
+        told = self._reader.members(root, self._job.owner(), "the settings", MEMBERS)
         if STEPS in told:
             self._read_steps(told[STEPS])
         restart = read_restart(self._reader, told[RESTART]) if RESTART in told else None
         schedule = ScheduleReader(self._reader).read(told[SCHEDULE]) if SCHEDULE in told else None
-        self.policies = JobPolicies(restart, read_timeout(self._reader, told), schedule)
+        queue = self._read_queue(told[QUEUE]) if QUEUE in told else DEFAULT_QUEUE
+        one = self._reader.truth(told[ONE_AT_A_TIME], self._job.owner(), ONE_AT_A_TIME) if ONE_AT_A_TIME in told else None
+        self.policies = JobPolicies(restart, read_timeout(self._reader, told), schedule, queue, one is True)
+
+    def _read_queue(self, value: Value) -> str:
+        if isinstance(value.held, str) and NAME.fullmatch(value.held):
+            return value.held
+        self._reader.fault(value, self._job.owner(), f'the name of a queue, {NAMED}, as "{QUEUE}"')
+        return DEFAULT_QUEUE
 
     def _read_steps(self, steps: Value) -> None:
         known = {element.id: element for element in self._job.elements if element.form == "step" and element.id is not None}

@@ -87,6 +87,8 @@ def add_jobs(parser: argparse.ArgumentParser) -> None:
     one.add_argument("--catalogue", type=Path, metavar="FILE", help=jobs)
     folder = "a folder of jobs: each *.xml is a job in JSL, each *.json a job or a catalogue (default: none, and --catalogue)"
     one.add_argument("--jobs", type=Path, metavar="FOLDER", help=folder)
+    queues = "a file of JSON that names the queues of the jobs of --jobs, and their bounds (default: none, and one queue alone)"
+    parser.add_argument("--queues", type=Path, metavar="FILE", help=queues)
     allow = "a form of JSL to leave out, as of `jobhost catalogue`; the option may come several times (default: none)"
     parser.add_argument("--allow", action="append", default=[], metavar="NAME", help=allow)
 
@@ -107,6 +109,7 @@ def add_listening(parser: argparse.ArgumentParser) -> None:
 
 def run_serve(given: argparse.Namespace) -> int:
     from job_host.catalogue.jobs import JobsRefused
+    from job_host.catalogue.queues import QueuesRefused
     from job_host.service.http.access import SettingsRefused
     from job_host.service.server import serve
 
@@ -118,6 +121,10 @@ def run_serve(given: argparse.Namespace) -> int:
         for line in (*refused.lines, f"jobhost serve: the jobs of {given.jobs} are refused"):
             print(printable(line), file=sys.stderr)
         return 1
+    except QueuesRefused as refused:
+        for line in refused.lines:
+            print(printable(line), file=sys.stderr)
+        return 2
     except (SettingsRefused, OSError) as fault:
         print(f"jobhost serve: {fault}", file=sys.stderr)
         return 2
@@ -143,6 +150,9 @@ def may_compact(given: argparse.Namespace) -> bool:
 
 
 def serve_settings(given: argparse.Namespace) -> ServeSettings:
+    """Raises OSError, and QueuesRefused."""
+    from job_host.catalogue.queues import read_queues
+
     scheme = "https" if given.certificate else "http"
     return ServeSettings(
         catalogue=given.jobs or given.catalogue,
@@ -165,6 +175,7 @@ def serve_settings(given: argparse.Namespace) -> ServeSettings:
         compact_at=given.compact_at,
         forget_keys=given.forget_keys,
         chain=given.chain,
+        queues={} if given.queues is None else read_queues(given.queues),
         notify=given.notify,
         notify_secret=given.notify_secret,
         notify_private=given.notify_private,
@@ -183,6 +194,12 @@ def add_worker(subcommands: Subcommands[argparse.ArgumentParser]) -> None:
     parser.add_argument("--slots", type=int, default=1, metavar="N", help=slots)
     system = "a variable of this environment that jobs may name as a system property; it may come several times (default: none)"
     parser.add_argument("--system-property", action="append", default=[], metavar="NAME", help=system)
+    queues = (
+        "the queues whose work it runs, in the order in which it looks for some, with commas between them (default: default)"
+    )
+    parser.add_argument("--queues", default="", metavar="NAMES", help=queues)
+    labels = "what it has that queues may want of their workers, with commas between them (default: nothing)"
+    parser.add_argument("--labels", default="", metavar="NAMES", help=labels)
     grace = "after SIGTERM or SIGINT its work items have so long to end; what is left is cut off (default: %(default)g)"
     parser.add_argument("--grace", type=seconds, default=30.0, metavar="SECONDS", help=grace)
     once = "runs one work item, and ends: the exit status is 0 if its end was reported, 3 if not, 4 if no work came"
@@ -196,7 +213,7 @@ def run_worker(given: argparse.Namespace) -> int:
     import asyncio
 
     from job_host.commands.address import address_of
-    from job_host.worker.worker import WorkerSettings, work, worker_address
+    from job_host.worker.worker import WorkerSettings, WorkOf, names_of, work, worker_address
 
     begin_log("jobhost worker")
     if not given.artifacts.is_dir() or not 1 <= given.slots <= MOST_SLOTS:
@@ -206,7 +223,8 @@ def run_worker(given: argparse.Namespace) -> int:
         print("jobhost worker: --once has one slot, and --wait is for --once", file=sys.stderr)
         return 2
     once = None if not given.once else ONCE_SECONDS if given.wait is None else given.wait
-    settings = WorkerSettings(given.artifacts.resolve(), given.slots, given.system_property, given.grace, once)
+    of = WorkOf(names_of(given.queues), names_of(given.labels))
+    settings = WorkerSettings(given.artifacts.resolve(), given.slots, given.system_property, given.grace, once, of)
     return asyncio.run(work(worker_address(address_of(given), given.client), settings))
 
 

@@ -2,8 +2,9 @@
 
 from __future__ import annotations
 
-from collections.abc import Mapping
+from collections.abc import Mapping, Sequence
 from contextlib import suppress
+from functools import cached_property
 from typing import Any
 
 from prometheus_client import CollectorRegistry, Counter, Gauge, Histogram, generate_latest
@@ -18,6 +19,7 @@ from job_host.service.keepers.open_items import OpenWanted, open_items
 from job_host.service.pages import Page
 from job_host.service.policies.delivery import Counts
 from job_host.service.problems import Problem
+from job_host.service.queues.queues import Queues
 from job_host.service.retention.rounds import Retention
 from job_host.service.settings import HistoryBounds
 from job_host.service.terms import moments
@@ -25,8 +27,6 @@ from job_host.service.terms.calls import SERVICE_SESSION
 from job_host.service.terms.term import Observers
 
 NO_ROWS = Page(0, 0)
-# All work items are of one queue.
-QUEUE = "default"
 READY = "At least so many claims would find work, or a job execution to close. There may be more: docs/SERVICE.md"
 OLDEST = "For at least so many seconds the oldest of what is known to be ready is so, 0 if nothing is"
 COMMIT_BUCKETS = (0.0005, 0.001, 0.002, 0.005, 0.01, 0.02, 0.05, 0.1, 0.2, 0.5, 1, 2, 5, 10)
@@ -89,67 +89,96 @@ class Metrics:
             self.commits.observe(seconds)
             self.replies.inc(replies)
 
-    def set_retention(self, retention: Retention) -> None:
-        """What the rounds of this instance did."""
-        self.archived.inc(retention.take_archived())
-        self.round.set(retention.last.seconds)
-        self.left.set(retention.last.left)
+    def set_retention(self, retentions: Sequence[Retention]) -> None:
+        """What the rounds of this instance did: of several queues, those of all."""
+        self.archived.inc(sum(one.take_archived() for one in retentions))
+        self.round.set(max(one.last.seconds for one in retentions))
+        self.left.set(sum(one.last.left for one in retentions))
 
-    def set_notifications(self, counts: Counts) -> None:
+    def set_notifications(self, counted: Sequence[Counts]) -> None:
         """What this instance sent since this was last asked, and what waits."""
-        self.notified.set(counts.waiting)
-        self.taken.inc(counts.taken)
-        self.not_taken.inc(counts.failed)
-        counts.taken = counts.failed = 0
+        self.notified.set(sum(counts.waiting for counts in counted))
+        for counts in counted:
+            self.taken.inc(counts.taken)
+            self.not_taken.inc(counts.failed)
+            counts.taken = counts.failed = 0
 
-    def set_compaction(self, keeper: Keeper) -> None:
-        """How the log stands, and what became of its last compaction."""
-        base = keeper.engine.base if keeper.engine else None
-        self.base_rows.set(0 if base is None else base.head.rows)
-        self.behind.set(keeper.behind)
-        if keeper.compaction is not None:
-            self.compacting.set(keeper.compaction.seconds)
-            self.compacted_at.set(keeper.compaction.begun / 1000)
-            self.not_compacted.set(1 if keeper.compaction.failure else 0)
+    def set_compaction(self, keepers: Sequence[Keeper]) -> None:
+        """How the logs stand, and what became of the last compaction."""
+        bases = [keeper.engine.base for keeper in keepers if keeper.engine]
+        self.base_rows.set(sum(0 if base is None else base.head.rows for base in bases))
+        self.behind.set(sum(keeper.behind for keeper in keepers))
+        compactions = [keeper.compaction for keeper in keepers if keeper.compaction is not None]
+        if compactions:
+            last = max(compactions, key=lambda one: one.begun)
+            self.compacting.set(last.seconds)
+            self.compacted_at.set(last.begun / 1000)
+            self.not_compacted.set(1 if any(one.failure for one in compactions) else 0)
 
-    async def text(self, keeper: Keeper) -> bytes:
-        """All metrics. The counts by batch status are asked for."""
-        self.operations.set(keeper.committed)
-        self.full.set(keeper.committed / self._most)
-        self.leads.set(1 if keeper.role == "leader" else 0)
-        self.epoch.set(keeper.epoch)
-        self.set_compaction(keeper)
-        self.waiting.set(keeper.term.desk.waiting if keeper.term else 0)
-        self.takeover.set(keeper.last_takeover)
+    async def text(self, queues: Queues) -> bytes:
+        """All metrics: of several queues, those of all. The counts by batch status are asked for."""
+        keepers = queues.keepers
+        self.operations.set(sum(queues.committed))
+        self.full.set(queues.fullest / self._most)
+        self.leads.set(1 if queues.role == "leader" else 0)
+        self.epoch.set(queues.default.keeper.epoch)
+        self.set_compaction(keepers)
+        self.waiting.set(queues.waiting)
+        self.takeover.set(max(keeper.last_takeover for keeper in keepers))
         for gauge in (self.executions, self.ready, self.busy, self.oldest):
             gauge.clear()
         self.held.set(0)
         self.purged.set(0)
-        held = len(keeper.engine.held) if keeper.engine else 0
-        purged = keeper.engine.actions.purges_by[SERVICE_SESSION] if keeper.engine else 0
+        held = sum(len(keeper.engine.held) for keeper in keepers if keeper.engine)
+        purged = sum(keeper.engine.actions.purges_by[SERVICE_SESSION] for keeper in keepers if keeper.engine)
         try:
-            answers = await keeper.ask([query("status_counts")])
+            counts = [await status_counts(keeper) for keeper in keepers]
         except (Problem, CoProcessEnded):
             return generate_latest(self.registry)
         # What was seen before this answer is kept.
         self.held.set(held)
         self.purged.set(purged)
-        for status, count in read(answers.replies[0])["counts"].items():
-            self.executions.labels(status).set(count)
+        for status in dict.fromkeys(status for one in counts for status in one):
+            self.executions.labels(status).set(sum(one.get(status, 0) for one in counts))
         with suppress(Problem, CoProcessEnded):
-            self._set_open((await open_items(keeper, OpenWanted(NO_ROWS))).counts)
-            self._set_backlog(await backlog(keeper))
+            self._set_open([(await open_items(keeper, OpenWanted(NO_ROWS))).counts for keeper in keepers])
+            for queue in queues:
+                self._set_backlog(queue.name, await backlog(queue.keeper))
+        self._set_queues(queues)
         return generate_latest(self.registry)
 
-    def _set_backlog(self, found: Backlog) -> None:
+    def _set_backlog(self, queue: str, found: Backlog) -> None:
         """What isn't known is left out: to whoever goes by it, 0 would say that there is no work."""
-        self.ready.labels(QUEUE).set(found.ready)
-        self.busy.labels(QUEUE).set(found.busy)
+        self.ready.labels(queue).set(found.ready)
+        self.busy.labels(queue).set(found.busy)
         age = 0 if found.since is None else max(0, moments.clock() - found.since)
-        self.oldest.labels(QUEUE).set(age / 1000)
+        self.oldest.labels(queue).set(age / 1000)
 
-    def _set_open(self, counts: Mapping[str, int | None]) -> None:
+    def _set_queues(self, queues: Queues) -> None:
+        """What only a service with several queues tells of each: how full it is, and whether workers ask for its work."""
+        if queues.are_plain:
+            return
+        full, waiting = self.each_queue
+        for one in queues:
+            full.labels(one.name).set(one.keeper.committed / self._most)
+            waiting.labels(one.name).set(len(queues.desk.waiting_for(one)))
+
+    @cached_property
+    def each_queue(self) -> tuple[Gauge, Gauge]:
+        """They aren't told where there is one queue alone."""
+        given: dict[str, Any] = {"registry": self.registry}
+        full = Gauge("jobhost_queue_history_full_ratio", "How full the history of the queue is", ["queue"], **given)
+        waiting = Gauge("jobhost_queue_claims_waiting", "Claims that wait for work of the queue", ["queue"], **given)
+        return full, waiting
+
+    def _set_open(self, counted: Sequence[Mapping[str, int | None]]) -> None:
         for status in RESTARTABLE:
-            self.open.labels(status).set(counts[status] or 0)
+            self.open.labels(status).set(sum(counts[status] or 0 for counts in counted))
         for name, gauge in (("long", self.long), ("late", self.late), (WAITING, self.vain)):
-            gauge.set(counts[name] or 0)
+            gauge.set(sum(counts[name] or 0 for counts in counted))
+
+
+async def status_counts(keeper: Keeper) -> dict[str, int]:
+    """How many job executions of a queue have each batch status."""
+    answers = await keeper.ask([query("status_counts")])
+    return dict(read(answers.replies[0])["counts"])

@@ -23,7 +23,9 @@ class Problem(Exception):
         self.status = status
         self.detail = detail
         self.members = members
+        # How many operations were seen of its queue, and with several queues what was seen of all of them.
         self.operations: int | None = None
+        self.seen: str | None = None
 
     def document(self) -> dict[str, Any]:
         told = {"type": f"urn:jobhost:{self.name}", "title": self.name, "status": self.status, **self.members}
@@ -32,7 +34,7 @@ class Problem(Exception):
     def response(self) -> web.Response:
         headers = {"Retry-After": "1"} if self.status in (429, 503) else {}
         if self.operations is not None:
-            headers[OPERATIONS] = str(self.operations)
+            headers[OPERATIONS] = self.seen or str(self.operations)
         text = json.dumps(self.document())
         return web.Response(text=text, status=self.status, content_type=CONTENT_TYPE, headers=headers)
 

@@ -8,6 +8,7 @@ import logging
 import signal
 import time
 from collections.abc import Awaitable, Callable, Sequence
+from typing import NamedTuple
 
 from aiohttp import web
 from prometheus_client import CONTENT_TYPE_LATEST
@@ -15,6 +16,7 @@ from prometheus_client import CONTENT_TYPE_LATEST
 from job_host.archive.folder import ArchiveFolder
 from job_host.catalogue.faults import NoVerdict
 from job_host.catalogue.jobs import JobsRefused, ServedJobs, read_file
+from job_host.catalogue.queues import DEFAULT_QUEUE
 from job_host.protocol.printable import begin_log
 from job_host.protocol.seldom import seldom
 from job_host.service.history.coprocess import CoProcessEnded
@@ -26,19 +28,20 @@ from job_host.service.http.descriptors import fitted, raise_limit
 from job_host.service.http.dispatch import Dispatch
 from job_host.service.http.listening import GuardedSite, Listener
 from job_host.service.http.requests import Asked, Gate, Host, Places, Route, process_ended, refuse_others
-from job_host.service.keepers.embedded import EmbeddedKeeper
-from job_host.service.keepers.keeper import Fatal, Keeper
+from job_host.service.keepers.keeper import Fatal
+from job_host.service.making import made_queues
 from job_host.service.metrics import Metrics
-from job_host.service.policies.leading import Policies
+from job_host.service.policies.leading import Outside, Policies
 from job_host.service.policies.receiver import Receiver
 from job_host.service.problems import Problem, unavailable
+from job_host.service.queues.queue import Queue
 from job_host.service.retention.purging import Purging
 from job_host.service.retention.rounds import Retention
 from job_host.service.routes.archive import make_ready, with_archive
-from job_host.service.routes.console import EVENTS_PATH, ConsoleFiles, show_events
+from job_host.service.routes.console import EVENTS_PATH, ConsoleFiles, health_of, show_events
+from job_host.service.routes.joined import chosen, told_of_queue
 from job_host.service.routes.table import ROUTES
 from job_host.service.settings import ServeSettings
-from job_host.service.terms.leases import Leases
 
 log = logging.getLogger(__name__)
 
@@ -58,8 +61,8 @@ LIVE_PROBE, READY_PROBE = "/livez", "/readyz"
 Serve = Callable[[web.Request], Awaitable[web.StreamResponse]]
 
 
-def read_jobs(settings: ServeSettings) -> ServedJobs:
-    """The jobs of the file, or of the folder. Raises JobsRefused, and OSError if it can't be read.
+def read_jobs(settings: ServeSettings) -> dict[str, ServedJobs]:
+    """The jobs of the file, or of the folder, by their queues. Raises JobsRefused, and OSError if it can't be read.
 
     Only a folder needs what reads JSL.
     """
@@ -69,20 +72,8 @@ def read_jobs(settings: ServeSettings) -> ServedJobs:
         read = read_folder(settings.catalogue, settings.allow)
         for line in read.told:
             log.warning("%s", line)
-        return read.served()
-    return ServedJobs(read_file(settings.catalogue))
-
-
-def make_keeper(settings: ServeSettings, metrics: Metrics) -> Keeper:
-    """The keeper of the history. Only one over PostgreSQL needs the package asyncpg."""
-    served, leases = read_jobs(settings), Leases(settings.lease)
-    if not settings.postgres:
-        return EmbeddedKeeper(settings, served, leases, metrics.observers())
-    try:
-        from job_host.service.keepers.postgres import PostgresKeeper
-    except ModuleNotFoundError as fault:
-        raise SettingsRefused(f"--postgres needs {fault.name}: Debian's package python3-asyncpg") from fault
-    return PostgresKeeper(settings, served, leases, metrics.observers())
+        return read.served_by_queues(settings.queue_names)
+    return {DEFAULT_QUEUE: ServedJobs(read_file(settings.catalogue))}
 
 
 def begun_archive(settings: ServeSettings) -> ArchiveFolder | None:
@@ -94,6 +85,15 @@ def begun_archive(settings: ServeSettings) -> ArchiveFolder | None:
     return archive
 
 
+class Part(NamedTuple):
+    """What one queue's leader does by itself."""
+
+    queue: Queue
+    purging: Purging
+    retention: Retention
+    policies: Policies
+
+
 class Service:
     """One instance. Probes and the console's files need no token; everything else does, where tokens are used."""
 
@@ -101,23 +101,29 @@ class Service:
         self.settings = settings
         self.access = Access(settings)
         self.metrics = Metrics(settings.history)
-        self.keeper = make_keeper(settings, self.metrics)
+        self.queues = made_queues(settings, read_jobs(settings), self.metrics.observers())
+        self.keeper = self.queues.default.keeper
         self.browsers = Browsers(settings.advertise)
         self.watchers = Places(settings.bounds.watchers, "consoles follow already")
         waits = Places(settings.bounds.waits, "claims wait for work already: this one may be made again")
         self.ending = asyncio.Event()
         archive = begun_archive(settings)
-        self.purging = Purging(self.keeper, archive)
-        self.retention = Retention(self.keeper, settings, self.purging)
         self.receiver = Receiver(settings) if settings.notify else None
-        self.policies = Policies(self.keeper, settings, self.receiver)
-        gate = Gate(settings.bounds)
-        self.host = Host(settings, self.keeper, self.access, gate, waits, self.ending, self.purging.purge, archive)
+        self.parts = [self._part(one, archive) for one in self.queues]
+        _, self.purging, self.retention, self.policies = self.parts[0]
+        gate, purges = Gate(settings.bounds), {one.queue.number: one.purging.purge for one in self.parts}
+        self.host = Host(settings, self.queues, self.access, gate, waits, self.ending, purges, archive)
         self.port = settings.port
         self.certificate: Certificate | None = None
         self._runner: web.ServerRunner | None = None
         # Folders that are being read again.
         self.readings: set[asyncio.Future[None]] = set()
+
+    def _part(self, queue: Queue, archive: ArchiveFolder | None) -> Part:
+        keeper, settings = queue.keeper, self.settings
+        purging = Purging(keeper, archive)
+        receiver = None if self.receiver is None else Outside(self.receiver, queue.number)
+        return Part(queue, purging, Retention(keeper, settings, purging), Policies(keeper, settings, receiver))
 
     def application(self) -> web.Application:
         application = web.Application(client_max_size=self.settings.bounds.body_bytes)
@@ -146,10 +152,11 @@ class Service:
         async def serve(request: web.Request) -> web.StreamResponse:
             asked = self._asked(request, route.right, route.words)
             with self.host.gate.enter(asked.client):
+                handler, asked = chosen(asked, route)
                 try:
-                    return await route.handler(asked)
+                    return await handler(asked)
                 except Problem as problem:
-                    raise await with_archive(asked, problem) from None
+                    raise told_of_queue(asked, await with_archive(asked, problem)) from None
 
         return serve
 
@@ -225,39 +232,39 @@ class Service:
             raise web.HTTPUnauthorized(text="") from None
 
     async def _show_metrics(self, asked: Asked) -> web.StreamResponse:
-        self.metrics.set_retention(self.retention)
-        self.metrics.set_notifications(self.policies.counts)
-        text = await self.metrics.text(self.keeper)
+        self.metrics.set_retention([one.retention for one in self.parts])
+        self.metrics.set_notifications([one.policies.counts for one in self.parts])
+        text = await self.metrics.text(self.queues)
         return web.Response(body=text, headers={"Content-Type": CONTENT_TYPE_LATEST})
 
     def _health(self) -> dict[str, object]:
-        keeper = self.keeper
-        told = {"role": keeper.role, "epoch": keeper.epoch, "operations": keeper.committed, "leader": keeper.leader_url}
-        if keeper.committed >= self.settings.history.warn_from:
+        """How this instance is; with several queues, as it is in all of them."""
+        told: dict[str, object] = {**health_of(self.queues), "leader": self.keeper.leader_url}
+        if self.queues.fullest >= self.settings.history.warn_from:
             return {**told, "warning": "HistoryAlmostFull"}
-        is_failed = keeper.compaction is not None and keeper.compaction.failure
+        is_failed = any(one.compaction is not None and one.compaction.failure for one in self.queues.keepers)
         return {**told, "warning": "NotCompacted"} if is_failed else told
 
     async def _probe_live(self, request: web.Request) -> web.StreamResponse:
         return web.Response(text="live\n")
 
     async def _probe_ready(self, request: web.Request) -> web.StreamResponse:
-        is_ready = self.keeper.is_ready
+        is_ready = self.queues.are_ready
         return web.Response(text="ready\n" if is_ready else "not ready\n", status=200 if is_ready else 503)
 
     async def _show_live(self, asked: Asked) -> web.StreamResponse:
         return web.json_response(self._health())
 
     async def _show_ready(self, asked: Asked) -> web.StreamResponse:
-        return web.json_response(self._health(), status=200 if self.keeper.is_ready else 503)
+        return web.json_response(self._health(), status=200 if self.queues.are_ready else 503)
 
     async def _show_leader(self, asked: Asked) -> web.StreamResponse:
-        return web.json_response(self._health(), status=200 if self.keeper.role == "leader" else 503)
+        return web.json_response(self._health(), status=200 if self.queues.role == "leader" else 503)
 
     async def _warn(self) -> None:
         """Says once a minute that the history fills."""
         while True:
-            operations, history = self.keeper.committed, self.settings.history
+            operations, history = self.queues.fullest, self.settings.history
             if operations >= history.warn_from:
                 log.warning("the history has %d of %d operations: begin a new one soon", operations, history.most)
             await asyncio.sleep(WARN_SECONDS)
@@ -279,7 +286,7 @@ class Service:
     async def end_serving(self) -> None:
         """Takes no more connections, ends what only waits, and lets the calls in hand end."""
         self.ending.set()
-        self.keeper.end_waits()
+        self.queues.end_waits()
         if self.host.archive is not None:
             self.host.archive.close()
         if self._runner is not None:
@@ -308,7 +315,7 @@ class Service:
         """Reads the folder of jobs again. If a file is at fault, all jobs stay as they are."""
         try:
             served = await asyncio.to_thread(read_jobs, self.settings)
-            await self.keeper.read_folder(served)
+            await self.queues.read_folder(served)
             log.warning("has read the files of its jobs again")
         except JobsRefused as refused:
             for line in refused.lines:
@@ -322,11 +329,12 @@ class Service:
         Raises Fatal.
         """
         loop = asyncio.get_running_loop()
-        beside = [loop.create_task(one) for one in (self.retention.run(), self.policies.run())]
+        rounds = [one for part in self.parts for one in (part.retention.run(), part.policies.run())]
+        beside = [loop.create_task(one) for one in rounds]
         if self.host.archive is not None:
             beside.append(loop.create_task(make_ready(self.host.archive)))
         try:
-            await self.keeper.run()
+            await self.queues.run()
         finally:
             for task in beside:
                 task.cancel()
@@ -351,7 +359,7 @@ class Service:
         warning.cancel()
         until_told.cancel()
         await self.end_serving()
-        await self.keeper.close()
+        await self.queues.close()
         await asyncio.wait([keeping], timeout=SHUTDOWN_SECONDS)
         if keeping.done():
             keeping.result()

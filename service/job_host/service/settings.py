@@ -2,10 +2,12 @@
 
 from __future__ import annotations
 
+from collections.abc import Mapping
 from dataclasses import dataclass, field
 from datetime import time
 from pathlib import Path
 
+from job_host.catalogue.queues import DEFAULT_QUEUE, QueueBounds
 from job_host.protocol.addresses import DEFAULT_PORT
 from job_host.protocol.bounds import LOG_BYTES, PAGE_OF_LARGE_ROWS, PAGE_SIZE, REQUESTS_AT_ONCE
 
@@ -88,7 +90,14 @@ class ServeSettings:
     forget_keys: bool = False
     # Chains the operations of the log by their hashes.
     chain: bool = False
+    # The queues with their bounds, the default one first. Without any there is that one alone, and it has no bounds.
+    queues: Mapping[str, QueueBounds] = field(default_factory=dict)
     bounds: Bounds = field(default_factory=Bounds)
+
+    @property
+    def queue_names(self) -> tuple[str, ...]:
+        """The queues that a job may have."""
+        return tuple(self.queues) or (DEFAULT_QUEUE,)
 
     @property
     def history(self) -> HistoryBounds:

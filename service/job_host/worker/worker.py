@@ -146,6 +146,24 @@ class Batchlet:
             ending.cancel()
 
 
+def names_of(text: str) -> tuple[str, ...]:
+    """Names with commas between them."""
+    return tuple(name.strip() for name in text.split(",") if name.strip())
+
+
+@dataclass(frozen=True)
+class WorkOf:
+    """The queues whose work a worker runs, in its order, and what it has that they may want. None is the default one."""
+
+    queues: Sequence[str] = ()
+    labels: Sequence[str] = ()
+
+    def members(self) -> dict[str, list[str]]:
+        """What a claim says of it. A service with one queue knows no such members, and a worker of that one names none."""
+        told = {"queues": [*self.queues], "labels": [*self.labels]}
+        return {name: names for name, names in told.items() if names}
+
+
 class Worker:
     """Slots that run one work item each at a time. While a slot is free, one claim waits for all of them.
 
@@ -159,9 +177,11 @@ class Worker:
         slots: int,
         system_properties: Sequence[str] = (),
         ending: Ending | None = None,
+        of: WorkOf = WorkOf(),
     ) -> None:
         self._client = client
         self._reports = Reports(client.operate)
+        self._of = of
         self._system_properties = {name: os.environ[name] for name in system_properties if name in os.environ}
         self._folder = ArtifactFolder(folder)
         self._slots = slots
@@ -274,7 +294,7 @@ class Worker:
     async def _claim(self, key: str, wait: float, longest: float | None) -> dict[str, Any] | None:
         """Claims, until the worker is told to end: then the connection is closed, and there is no answer."""
         news = await asyncio.to_thread(self._folder.news) if self._tells_artifacts else None
-        body: dict[str, Any] = {"wait": wait, **({} if news is None else {"artifacts": news})}
+        body: dict[str, Any] = {"wait": wait, **self._of.members(), **({} if news is None else {"artifacts": news})}
         call = self._client.operate("POST", "/batch/work", body, wait, FOREVER, key)
         claiming, telling = asyncio.ensure_future(call), asyncio.ensure_future(self.ending.wait())
         try:
@@ -389,6 +409,7 @@ class WorkerSettings:
     system_properties: Sequence[str] = ()
     grace: float | None = None
     once: float | None = None
+    of: WorkOf = WorkOf()
 
 
 async def work(address: Address, settings: WorkerSettings) -> int:
@@ -396,5 +417,5 @@ async def work(address: Address, settings: WorkerSettings) -> int:
     async with Client(address, seldom(log.warning)) as client:
         ending = Ending(settings.grace)
         ending.listen()
-        worker = Worker(client, settings.folder, settings.slots, settings.system_properties, ending)
+        worker = Worker(client, settings.folder, settings.slots, settings.system_properties, ending, settings.of)
         return await (worker.run() if settings.once is None else worker.run_once(settings.once))

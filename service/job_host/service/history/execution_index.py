@@ -42,7 +42,7 @@ class Wanted:
     """A list's filter. Without statuses all of them are meant; `search` is in lower case.
 
     With `most_recent` only the most recent job execution of each job instance is meant. `numbers` are the first number that is
-    meant, and the last one if there is one.
+    meant, and the last one if there is one. A search for a number means it as it is outside: `more` of it than here.
     """
 
     statuses: frozenset[str] = frozenset()
@@ -50,6 +50,7 @@ class Wanted:
     search: str = ""
     most_recent: bool = False
     numbers: tuple[int, int | None] = ALL_NUMBERS
+    more: int = 0
 
     @property
     def is_by_status_alone(self) -> bool:
@@ -62,7 +63,7 @@ class Wanted:
         """Whether a job execution with such a status is meant."""
         if self.job is not None and row.job != self.job:
             return False
-        if not self.search or self.search in (str(execution), str(row.instance)):
+        if not self.search or self.search in (str(self.more + execution), str(self.more + row.instance)):
             return True
         return any(self.search in text.lower() for text in (row.job, row.exit, parameters))
 

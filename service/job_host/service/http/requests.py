@@ -7,8 +7,9 @@ import ipaddress
 import json
 import re
 from collections import Counter
-from collections.abc import Awaitable, Callable, Iterable, Iterator
+from collections.abc import Awaitable, Callable, Iterable, Iterator, Mapping
 from contextlib import contextmanager
+from copy import copy
 from dataclasses import dataclass
 from functools import lru_cache
 from typing import Any, NamedTuple
@@ -20,10 +21,14 @@ from job_host.protocol.bounds import MOST_NUMBER
 from job_host.protocol.headers import AT_LEAST, CLIENT, OPERATIONS, REQUEST_KEY
 from job_host.protocol.lines import Members
 from job_host.protocol.peers import is_unheard, notice_gone
+from job_host.protocol.seen import NoNumbers, Seen, of_queue, read_seen, written
 from job_host.service.http.access import NAME, Access, Caller
+from job_host.service.ids import outside, told_outside
 from job_host.service.keepers.keeper import Keeper
 from job_host.service.pages import USUAL_SIZE, Page
 from job_host.service.problems import Problem, bad_request, unavailable
+from job_host.service.queues.queue import Queue
+from job_host.service.queues.queues import Queues
 from job_host.service.settings import Bounds, ServeSettings
 from job_host.service.terms.calls import Call, Kept
 
@@ -121,30 +126,56 @@ class Places:
             self.count -= 1
 
 
+Purge = Callable[[Call], Awaitable[Kept]]
+
+
 @dataclass(frozen=True)
 class Host:
-    """The service, as routes see it. `purge` makes a purge, after the job instance was archived if there is an archive."""
+    """The service, as routes see it. `purges` make a purge in a queue, after the job instance was archived if there is an
+    archive.
+    """
 
     settings: ServeSettings
-    keeper: Keeper
+    queues: Queues
     access: Access
     gate: Gate
     waits: Places
     ending: asyncio.Event
-    purge: Callable[[Call], Awaitable[Kept]]
+    purges: Mapping[int, Purge]
     archive: ArchiveFolder | None = None
 
 
 class Asked:
-    """One request."""
+    """One request, which is about one queue: the default one, unless another one is chosen."""
 
     def __init__(self, request: web.Request, host: Host, caller: Caller) -> None:
         self.request = request
         self.host = host
-        self.keeper = host.keeper
+        self.queue = host.queues.default
+        # The number in the path as its queue has it, and a page in place of the query's, if they are chosen.
+        self._number: int | None = None
+        self._page: Page | None = None
         self.caller = caller
         self.client = caller.prefix + self._client_name()
         self.address = address_of(request)
+
+    @property
+    def keeper(self) -> Keeper:
+        return self.queue.keeper
+
+    @property
+    def purge(self) -> Purge:
+        return self.host.purges[self.queue.number]
+
+    def of(self, queue: Queue, number: int | None = None, page: Page | None = None) -> Asked:
+        """The same request, about one queue."""
+        asked = copy(self)
+        asked.queue, asked._number, asked._page = queue, number, page
+        return asked
+
+    def by_path(self) -> Asked:
+        """The same request, about the queue of the number in its path."""
+        return self.of(*self.host.queues.of_number(self.path_number()))
 
     def _client_name(self) -> str:
         name = self.request.headers.get(CLIENT, ANYBODY)
@@ -175,8 +206,35 @@ class Asked:
 
     @property
     def at_least(self) -> int:
+        """How many operations of its queue the answer has to have seen."""
+        return self.host.queues.at_least_in(self.queue, self.seen_before)
+
+    @property
+    def seen_before(self) -> Seen:
+        """What the client saw before."""
         given = self.request.headers.get(AT_LEAST, self.request.query.get("atLeast", "0"))
-        return number(given, AT_LEAST)
+        if self.host.queues.are_plain:
+            return of_queue(0, number(given, AT_LEAST))
+        try:
+            seen = read_seen(given)
+        except NoNumbers as fault:
+            told = f"{AT_LEAST} is a whole number from 0 to {MOST_NUMBER} for each queue, with commas between them"
+            raise bad_request(told) from fault
+        self.host.queues.check_known(seen)
+        return seen
+
+    def seen_text(self, seen: int) -> str:
+        """What the client has seen with an answer that saw so many operations of its queue."""
+        queues = self.host.queues
+        return str(seen) if queues.are_plain else written(queues.seen_in(self.queue, seen, self.seen_before))
+
+    def operations(self, seen: int) -> int | str:
+        """The same as a member of an answer: with one queue it is a number."""
+        return seen if self.host.queues.are_plain else self.seen_text(seen)
+
+    def outside(self, inside: int) -> int:
+        """A number of the queue, as clients are told it."""
+        return outside(self.queue.number, inside)
 
     def expect_words(self, known: Iterable[str]) -> None:
         """Refuses a query with other words, or with one that comes twice: part of it would be left out otherwise."""
@@ -189,6 +247,8 @@ class Asked:
             raise bad_request(f"{twice[0]} comes more than once")
 
     def path_number(self) -> int:
+        if self._number is not None:
+            return self._number
         return number(self.request.match_info["id"], "the number in the path")
 
     def query_number(self, name: str, default: int) -> int:
@@ -196,6 +256,8 @@ class Asked:
 
     def page(self, most: int) -> Page:
         """The page of a list that is meant, with so many rows at most. It doesn't begin farther than any page may."""
+        if self._page is not None:
+            return self._page
         page, size = self.query_number("page", 0), self.query_number("pageSize", USUAL_SIZE)
         if not 0 < size <= most or page * size > FARTHEST_ROW:
             raise bad_request(f"a page has 1 to {most} rows, and begins within the first {FARTHEST_ROW}")
@@ -264,7 +326,9 @@ class Asked:
 
     def answer(self, told: Any, seen: int, status: int = 200) -> web.Response:
         """An answer that says how many operations it saw."""
-        return web.json_response(told, status=status, headers={OPERATIONS: str(seen)})
+        return web.json_response(
+            told_outside(told, self.queue.number), status=status, headers={OPERATIONS: self.seen_text(seen)}
+        )
 
 
 Handler = Callable[[Asked], Awaitable[web.StreamResponse]]

@@ -103,7 +103,11 @@ class EmbeddedKeeper(Keeper):
         """Only a folder needs what reads JSL."""
         from job_host.service.keepers.embedded_jobs import EmbeddedJobs
 
-        return EmbeddedJobs(self._settings)
+        return EmbeddedJobs(self._settings, lambda name: self.elsewhere(name))
+
+    def load_jobs(self) -> None:
+        if self._jobs is not None:
+            self.book = self._jobs.load()
 
     async def run(self) -> None:
         make_private(self._settings.data)

@@ -13,7 +13,7 @@ from job_host.service.keepers.keeper import Fatal
 from job_host.service.problems import Problem, unavailable
 from job_host.service.settings import ServeSettings
 from job_host.service.terms.term import Term
-from job_host.service.versions.book import JobBook
+from job_host.service.versions.book import JobBook, nowhere
 from job_host.service.versions.changes import Change
 from job_host.service.versions.files import DamagedChanges, JobFiles
 
@@ -26,10 +26,11 @@ Grow = Callable[[bytes], Awaitable[None]]
 class EmbeddedJobs:
     """The book of one history, as its files have it."""
 
-    def __init__(self, settings: ServeSettings) -> None:
+    def __init__(self, settings: ServeSettings, elsewhere: Callable[[str], str | None] = nowhere) -> None:
         self._settings = settings
         self._files = JobFiles(settings.data)
-        self.book = JobBook(self._files.file_of, self._read)
+        self._elsewhere = elsewhere
+        self.book = JobBook(self._files.file_of, self._read, elsewhere)
         self.seen: dict[str, str] = {}
 
     def _read(self, file: JobFile) -> ForWorkers:
@@ -37,7 +38,7 @@ class EmbeddedJobs:
 
     def load(self) -> JobBook:
         """Reads the files again. Raises Fatal if they are damaged."""
-        self.book = JobBook(self._files.file_of, self._read)
+        self.book = JobBook(self._files.file_of, self._read, self._elsewhere)
         try:
             self.book.enter(self._files.load())
         except DamagedChanges as fault:

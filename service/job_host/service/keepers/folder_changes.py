@@ -22,6 +22,11 @@ class FolderChanges:
     told: list[str] = field(default_factory=list)
 
 
+def told_elsewhere(name: str, queue: str) -> str:
+    """Why a job can't begin in another queue."""
+    return f"the job {name!r} is in the queue {queue!r}: it begins in another one after `jobhost jobs withdraw` there"
+
+
 def is_newest(book: JobBook, batchctl: Sequence[str], given: ReadJob) -> bool:
     """Whether a job is as its newest version, also in what is for workers. Raises NoVerdict."""
     name = given.job["id"]
@@ -73,6 +78,10 @@ def folder_changes(book: JobBook, batchctl: Sequence[str], served: ServedJobs, s
     for given in read_jobs_of(served):
         name, digest = given.job["id"], digest_of_file(given.file)
         if found.seen.get(name) == digest and book.newest(name):
+            continue
+        other = book.elsewhere(name)
+        if other is not None:
+            found.told.append(f"{given.file.name}: {told_elsewhere(name, other)}")
             continue
         found.seen[name] = digest
         if book.is_withdrawn(name):

@@ -9,10 +9,11 @@ from contextlib import asynccontextmanager
 
 from job_host.catalogue import check
 from job_host.catalogue.faults import NoVerdict
+from job_host.catalogue.folder import unknown_queue
 from job_host.catalogue.jobs import JobFile, JobsRefused, ServedJobs
 from job_host.catalogue.versions import ReadJob, read_job
 from job_host.protocol.lines import compact
-from job_host.service.keepers.folder_changes import FolderChanges, folder_changes, is_newest, version_of
+from job_host.service.keepers.folder_changes import FolderChanges, folder_changes, is_newest, told_elsewhere, version_of
 from job_host.service.problems import Problem, unavailable
 from job_host.service.settings import ServeSettings
 from job_host.service.terms.calls import Call, Kept, KeptRequest
@@ -71,16 +72,26 @@ class JobChanges:
     async def _read(self, name: str, file: JobFile) -> ReadJob:
         """The job of a file. Raises JobRefused, by the file's faults."""
         try:
-            return await asyncio.to_thread(read_job, file, name, self._settings.allow, self._settings.batchctl)
+            given = await asyncio.to_thread(read_job, file, name, self._settings.allow, self._settings.batchctl)
         except JobsRefused as refused:
-            told = "; ".join(refused.lines[:MOST_FAULTS])
-            raise Problem("JobRefused", 400, told, faults=list(refused.lines[:MOST_FAULTS])) from refused
+            raise job_refused(refused.lines) from refused
         except NoVerdict as fault:
             raise unavailable("CoProcessEnded", str(fault)) from fault
+        queue, settings = given.for_workers.policies.queue, file.settings
+        if settings is not None and queue not in self._settings.queue_names:
+            raise job_refused([unknown_queue(settings.name, queue, self._settings.queue_names)])
+        return given
+
+    def _check_elsewhere(self, name: str) -> None:
+        """Raises JobInOtherQueue if the job may be started in another queue."""
+        other = self._book.elsewhere(name)
+        if other is not None:
+            raise Problem("JobInOtherQueue", 409, told_elsewhere(name, other))
 
     async def check(self, name: str, file: JobFile) -> bytes:
         """What would be answered to the file of a job, which isn't applied. Raises JobRefused, by the file's faults."""
         given = await self._read(name, file)
+        self._check_elsewhere(name)
         version, told = self._book.newest(name), tuple(given.told)
         if await asyncio.to_thread(is_newest, self._book, self._settings.batchctl, given):
             return reply_of(name, version, self._book.is_withdrawn(name), told)
@@ -94,6 +105,7 @@ class JobChanges:
 
     async def _apply(self, call: Call, given: ReadJob) -> bytes:
         name, told = given.job["id"], tuple(given.told)
+        self._check_elsewhere(name)
         version = self._book.newest(name)
         if not await asyncio.to_thread(is_newest, self._book, self._settings.batchctl, given):
             change = version_of(self._book, given, call.client, keyed_by(call))
@@ -142,6 +154,12 @@ async def to_its_end(call: Callable[[], None]) -> None:
     except asyncio.CancelledError:
         await asyncio.wait([task])
         raise
+
+
+def job_refused(lines: Sequence[str]) -> Problem:
+    """The first faults of a job's file."""
+    first = list(lines[:MOST_FAULTS])
+    return Problem("JobRefused", 400, "; ".join(first), faults=first)
 
 
 def keyed_by(call: Call) -> KeyedBy | None:

@@ -5,7 +5,7 @@ from __future__ import annotations
 import asyncio
 import logging
 from abc import ABC, abstractmethod
-from collections.abc import AsyncIterator, Awaitable, Mapping, Sequence
+from collections.abc import AsyncIterator, Awaitable, Callable, Mapping, Sequence
 from contextlib import asynccontextmanager
 from dataclasses import dataclass, replace
 from typing import TYPE_CHECKING, Any, NamedTuple
@@ -20,6 +20,7 @@ from job_host.service.history.audited import Audited, AuditWanted, Origin, token
 from job_host.service.history.coprocess import CatalogueRefused, CoProcess
 from job_host.service.history.engine import Engine
 from job_host.service.history.work_items import Ended, Held
+from job_host.service.ids import outside
 from job_host.service.pages import Page
 from job_host.service.problems import Problem, of_refusal, unavailable
 from job_host.service.stores.notifications import PolicyNotes
@@ -27,7 +28,7 @@ from job_host.service.terms.calls import SERVICE, SERVICE_SESSION, Call, Kept, L
 from job_host.service.terms.leases import Leases
 from job_host.service.terms.sessions import Silent
 from job_host.service.terms.term import Term
-from job_host.service.versions.book import FileNotKept, JobBook
+from job_host.service.versions.book import FileNotKept, JobBook, nowhere
 
 if TYPE_CHECKING:
     from job_host.service.keepers.job_changes import JobChanges
@@ -116,6 +117,17 @@ class Keeper(ABC):
         self.restart_times: Mapping[int, int] = {}
         # The last compaction that this instance has tried, or that is under way.
         self.compaction: Compaction | None = None
+        # The number of its queue, the other queue in which a job may be started, and whether this instance may lead now.
+        self.number = 0
+        self.elsewhere: Callable[[str], str | None] = nowhere
+        self.may_lead: Callable[[], bool] = lambda: True
+
+    def load_jobs(self) -> None:
+        """Lets `book` tell the versions of jobs before `run`, if they are at hand. Raises Fatal if they are damaged."""
+
+    def outside(self, number: int) -> int:
+        """A number of this history, as people are told it."""
+        return outside(self.number, number)
 
     @abstractmethod
     async def run(self) -> None:

@@ -95,7 +95,7 @@ class PostgresKeeper(Keeper):
         """Only a folder needs what reads JSL."""
         from job_host.service.keepers.postgres_jobs import PostgresJobs
 
-        return PostgresJobs(self._settings, self._logs, self._compacting.turn)
+        return PostgresJobs(self._settings, self._logs, self._compacting.turn, lambda name: self.elsewhere(name))
 
     def _note_compaction(self, one: Compaction) -> None:
         self.compaction = one
@@ -212,7 +212,7 @@ class PostgresKeeper(Keeper):
             self.leader_url, self.epoch, self.history = leader.url, leader.epoch, leader.history
             self.role = "follower"
             is_free = leader.holder in ("", self._holder)
-            if is_free or time.monotonic() - since >= self._settings.takeover_after:
+            if self.may_lead() and (is_free or time.monotonic() - since >= self._settings.takeover_after):
                 epoch = await store.take_over(leader, self._holder, self._settings.advertise, self._bring)
                 if epoch is not None:
                     return epoch
@@ -271,17 +271,24 @@ class PostgresKeeper(Keeper):
         if self._jobs is not None:
             rounds.append(self._lead_jobs(store, term, begun))
         try:
-            await first_of([*rounds, engine.until_ended(), self._closing.wait()])
+            await first_of([*rounds, engine.until_ended(), self._until_over()])
         finally:
             # Its co-process may know more than the table: nobody reads it before that is known.
             engine.process.log_end()
             self.role, self.term, self.engine = "starting", None, None
-            if engine.process.has_ended or (self._closing.is_set() and term.failure is None):
+            is_over = self._closing.is_set() or not self.may_lead()
+            if engine.process.has_ended or (is_over and term.failure is None):
                 await self._resign(store, term.epoch)
             term.fail(unavailable("NotLeader", "this instance leads no more"))
             changes, self.changes = self.changes, None
             if changes is not None:
                 await changes.stop()
+
+    async def _until_over(self) -> None:
+        """Returns after this instance may lead no more, or is to end."""
+        while not self._closing.is_set() and self.may_lead():
+            with suppress(asyncio.TimeoutError):
+                await asyncio.wait_for(self._closing.wait(), POLL)
 
     async def _check_history(self, engine: Engine) -> None:
         """Raises BaseGone if the engine knows the base of another history: the table was emptied, and a new one has begun."""

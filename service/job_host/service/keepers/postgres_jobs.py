@@ -4,7 +4,7 @@ from __future__ import annotations
 
 import asyncio
 import logging
-from collections.abc import Sequence
+from collections.abc import Callable, Sequence
 
 from job_host.catalogue.faults import NoVerdict
 from job_host.catalogue.jobs import ForWorkers, JobFile, JobsRefused, ServedJobs
@@ -18,7 +18,7 @@ from job_host.service.keepers.postgres_term import PostgresTerm
 from job_host.service.problems import Problem, unavailable
 from job_host.service.settings import ServeSettings
 from job_host.service.stores.postgres import PostgresStore
-from job_host.service.versions.book import JobBook
+from job_host.service.versions.book import JobBook, nowhere
 from job_host.service.versions.changes import Change, Growth
 
 log = logging.getLogger(__name__)
@@ -30,8 +30,15 @@ class PostgresJobs:
     While it holds `turn`, this instance keeps no base: that would take operations away which another co-process is handed.
     """
 
-    def __init__(self, settings: ServeSettings, logs: LocalLogs, turn: asyncio.Lock) -> None:
+    def __init__(
+        self,
+        settings: ServeSettings,
+        logs: LocalLogs,
+        turn: asyncio.Lock,
+        elsewhere: Callable[[str], str | None] = nowhere,
+    ) -> None:
         self._settings = settings
+        self._elsewhere = elsewhere
         self._logs = logs
         self._turn = turn
         self.book: JobBook | None = None
@@ -42,7 +49,7 @@ class PostgresJobs:
 
     async def load(self, store: PostgresStore, catalogue: bytes) -> JobBook:
         """Reads what the table has, under a catalogue."""
-        book = JobBook(lambda change: change.file, self._read)
+        book = JobBook(lambda change: change.file, self._read, self._elsewhere)
         book.enter(await store.job_changes())
         book.take_over(catalogue)
         self.book = book

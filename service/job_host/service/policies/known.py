@@ -6,6 +6,8 @@ from job_host.service.terms.term import Term
 
 # No client can have such a name: those of clients begin with a letter or a digit.
 RESTARTER, TIMER, SCHEDULER = "(restart-policy)", "(timeout)", "(schedule)"
+# By these refusals of its queue a start or a restart is made as soon as there is room.
+HELD = ("QueueFull", "JobIsRunning")
 
 
 async def session_of(term: Term, client: str) -> int | None:

@@ -5,6 +5,7 @@ from __future__ import annotations
 import asyncio
 from collections.abc import Callable
 
+from job_host.service.ids import text_outside
 from job_host.service.keepers.keeper import Keeper
 from job_host.service.policies.delivery import Counts, Delivery, Sending
 from job_host.service.policies.notifications import Finder
@@ -22,6 +23,17 @@ class Nobody:
 
     async def send(self, number: str, text: str) -> None:
         raise NotTaken("there is no receiver")
+
+
+class Outside:
+    """Sends what a queue tells, with its numbers as they are outside."""
+
+    def __init__(self, sending: Sending, queue: int) -> None:
+        self._sending = sending
+        self._queue = queue
+
+    async def send(self, number: str, text: str) -> None:
+        await self._sending.send(number, text_outside(text, self._queue))
 
 
 class Policies:

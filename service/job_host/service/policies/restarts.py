@@ -18,7 +18,7 @@ from job_host.service.history.open_index import FEW
 from job_host.service.keepers.keeper import Keeper
 from job_host.service.keepers.open_items import cause_queries, causes_in
 from job_host.service.pages import Page
-from job_host.service.policies.known import RESTARTER, session_of
+from job_host.service.policies.known import HELD, RESTARTER, session_of
 from job_host.service.problems import Problem
 from job_host.service.retention.purging import LOOK, Changed
 from job_host.service.terms import moments
@@ -147,11 +147,13 @@ class Restarts:
         except Changed:
             del self._plans[execution]
             return
-        except Problem:
+        except Problem as problem:
             self._plans[execution] = plan
+            if problem.name in HELD:
+                return
             raise
-        refusal = refusal_of(told)
+        refusal, number = refusal_of(told), self._keeper.outside(execution)
         if refusal is None:
-            log.warning("restart policy: job execution %d is restarted as %d", execution, told["execution"])
+            log.warning("restart policy: job execution %d is restarted as %d", number, self._keeper.outside(told["execution"]))
         else:
-            log.warning("restart policy: job execution %d stays FAILED: %s", execution, refusal)
+            log.warning("restart policy: job execution %d stays FAILED: %s", number, refusal)

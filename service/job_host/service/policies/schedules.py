@@ -14,9 +14,10 @@ from job_host.catalogue.names import id_of
 from job_host.catalogue.schedules import SKIP, Schedule
 from job_host.protocol.lines import Members, fingerprint, refusal_of
 from job_host.protocol.moments import moment
+from job_host.protocol.seldom import seldom
 from job_host.service.history.execution_index import Wanted
 from job_host.service.keepers.keeper import Keeper
-from job_host.service.policies.known import SCHEDULER, session_of
+from job_host.service.policies.known import HELD, SCHEDULER, session_of
 from job_host.service.problems import Problem
 from job_host.service.stores.notifications import SCHEDULE_MARKS
 from job_host.service.terms import moments
@@ -37,6 +38,10 @@ LOOKED_AT = 50
 LASTING = ("RepositoryFull",)
 
 
+class Held(Exception):
+    """The bounds of the job's queue keep it from being started now."""
+
+
 class Planned(NamedTuple):
     """The next moment of a job's schedule, in this version of the job, behind the last one that was done."""
 
@@ -54,6 +59,7 @@ class Schedules:
         self._clock = clock
         self._planned: dict[str, Planned] = {}
         self._marks: dict[str, int] | None = None
+        self._say = seldom(log.warning)
 
     async def round(self) -> None:
         """Starts what is due. The moments of a job come in turn."""
@@ -64,7 +70,10 @@ class Schedules:
             self._marks = await self._keeper.notes().marks()
         scheduled = scheduled_jobs(self._keeper, book)
         for name, schedule in scheduled.items():
-            await self._start_due(book, name, schedule)
+            try:
+                await self._start_due(book, name, schedule)
+            except Held as held:
+                self._say(f"schedule: the job {name!r} isn't started yet: {held}")
         self._planned = {name: one for name, one in self._planned.items() if name in scheduled}
 
     async def _start_due(self, book: JobBook, name: str, schedule: Schedule) -> None:
@@ -134,6 +143,8 @@ class Schedules:
         try:
             told = (await self._term.submit(call)).told()
         except Problem as problem:
+            if problem.name in HELD:
+                raise Held(str(problem)) from problem
             if problem.status >= 500:
                 raise
             told = {"refused": problem.name}
@@ -143,7 +154,12 @@ class Schedules:
         if refusal is not None:
             log.warning("schedule: the job %r isn't started for %s: %s", name, moment(at), refusal)
         else:
-            log.warning("schedule: the job %r is started for %s: job execution %d", name, moment(at), told["execution"])
+            log.warning(
+                "schedule: the job %r is started for %s: job execution %d",
+                name,
+                moment(at),
+                self._keeper.outside(told["execution"]),
+            )
 
 
 def scheduled_jobs(keeper: Keeper, book: JobBook) -> dict[str, Schedule]:

@@ -59,4 +59,4 @@ class Timeouts:
         refusal = refusal_of((await self._term.submit(call)).told())
         del self._due[execution]
         if refusal is None:
-            log.warning("timeout: job execution %d is asked to stop", execution)
+            log.warning("timeout: job execution %d is asked to stop", self._keeper.outside(execution))

@@ -17,8 +17,10 @@ from job_host.archive.moments import DAY
 from job_host.protocol.batch_statuses import STATUSES
 from job_host.protocol.parameters import shortened
 from job_host.service.http.requests import PAGE_WORDS, Asked, Route
+from job_host.service.ids import told_outside
 from job_host.service.pages import Page
 from job_host.service.problems import Problem, bad_request, unavailable
+from job_host.service.queues.queue import Queue
 from job_host.service.routes.lists import PARAMETER_CHARACTERS, day_of, search_of
 
 T = TypeVar("T")
@@ -70,15 +72,23 @@ async def list_archived(asked: Asked) -> web.StreamResponse:
     """Archived job executions, the newest first, page by page."""
     archive, wanted, page = archive_of(asked), wanted_of(asked), asked.page(asked.host.settings.bounds.page_size)
     rows, damaged = await read_archive(lambda: listed(archive, wanted, page.start, page.size + 1))
-    told = {"jobExecutions": [brief(asked, row) for row in rows[: page.size]], "more": len(rows) > page.size}
+    shown_rows = [brief(asked.of(queue_of(asked, row)), row) for row in rows[: page.size]]
+    told = {"jobExecutions": shown_rows, "more": len(rows) > page.size}
     return web.json_response({**told, "damagedLines": {one.file: one.lines for one in damaged}})
+
+
+def queue_of(asked: Asked, row: Told) -> Queue:
+    """The queue whose history a row is of. One of another history is told by the default one."""
+    queues = asked.host.queues
+    return next((one for one in queues if one.keeper.history == row["history"]), queues.default)
 
 
 def brief(asked: Asked, row: Told) -> dict[str, Any]:
     """A row of the list. What was archived for a purge that failed is in this history still."""
     engine = asked.keeper.engine if row["history"] == asked.keeper.history else None
     is_there = engine is not None and engine.executions.has_instance(row["instanceId"])
-    return {**row, "parameterText": shortened(row["parameterText"], PARAMETER_CHARACTERS), "purged": not is_there}
+    told = {**row, "parameterText": shortened(row["parameterText"], PARAMETER_CHARACTERS), "purged": not is_there}
+    return dict(told_outside(told, asked.queue.number))
 
 
 async def show_archived(asked: Asked) -> web.StreamResponse:
@@ -92,7 +102,8 @@ async def show_archived(asked: Asked) -> web.StreamResponse:
     for history in histories:
         found = await read_archive(lambda: shown(archive, execution, history))
         if found is not None:
-            return web.json_response({**in_pages(found.execution, page), **origin(found.record, found.place)})
+            told = {**in_pages(found.execution, page), **origin(found.record, found.place)}
+            return web.json_response(told_outside(told, queue_of(asked, found.record).number))
     raise Problem(GONE, 404, "the archive has no such job execution")
 
 
@@ -120,8 +131,9 @@ async def with_archive(asked: Asked, problem: Problem) -> Problem:
         return problem
     if found is None:
         return problem
-    href = f"/batch/archive/jobexecutions/{execution}?history={history}"
-    detail = f"job execution {execution} was purged, and the archive has it: {href}"
+    number = asked.outside(execution)
+    href = f"/batch/archive/jobexecutions/{number}?history={history}"
+    detail = f"job execution {number} was purged, and the archive has it: {href}"
     archived = {"href": href, **origin(found.row, found.place)}
     told = Problem(problem.name, problem.status, detail, **problem.members, archived=archived)
     told.operations = problem.operations

@@ -14,8 +14,10 @@ from aiohttp import web
 from job_host.service.history.engine import Engine
 from job_host.service.http.browsers import Browsers
 from job_host.service.http.requests import Asked
+from job_host.service.ids import told_outside
 from job_host.service.keepers.keeper import Keeper
 from job_host.service.problems import Problem
+from job_host.service.queues.queues import Queues
 
 PAGE = "index.html"
 TOKEN_PLACE = "{forgery-token}"
@@ -76,12 +78,21 @@ class ConsoleFiles:
         return web.Response(body=content, content_type=kind, charset="utf-8", headers=headers)
 
 
-def state_of(keeper: Keeper) -> dict[str, Any]:
-    return {"operations": keeper.committed, "role": keeper.role, "epoch": keeper.epoch}
+def state_of(queues: Queues) -> dict[str, Any]:
+    """How the default queue is; of several ones, what is kept in all of them."""
+    keeper = queues.default.keeper
+    if queues.are_plain:
+        return {"operations": keeper.committed, "role": keeper.role, "epoch": keeper.epoch}
+    return {"operations": sum(queues.committed), "role": queues.role, "epoch": sum(one.epoch for one in queues.keepers)}
+
+
+def health_of(queues: Queues) -> dict[str, Any]:
+    state = state_of(queues)
+    return {name: state[name] for name in ("role", "epoch", "operations")}
 
 
 class Changed:
-    """Names what one stream of events hasn't told yet, as long as the history goes on by one engine."""
+    """Names what one stream of events hasn't told yet of a queue, as long as the history goes on by one engine."""
 
     def __init__(self) -> None:
         self._engine: Engine | None = None
@@ -97,6 +108,21 @@ class Changed:
         return {} if executions is None else {"executions": executions}
 
 
+class ChangedInQueues:
+    """The same of all queues, with the numbers of job executions as they are outside."""
+
+    def __init__(self, queues: Queues) -> None:
+        self._queues = queues
+        self._changed = [Changed() for _ in queues]
+
+    def names(self) -> dict[str, Any]:
+        told = [of.names(one.keeper, one.keeper.committed) for one, of in zip(self._queues, self._changed, strict=True)]
+        if not all(told):
+            return {}
+        named = [told_outside(one, queue.number)["executions"] for one, queue in zip(told, self._queues)]
+        return {"executions": [number for some in named for number in some]}
+
+
 async def show_events(asked: Asked) -> web.StreamResponse:
     """Says how many operations there are, at once and after each growth (server-sent events). Ends if the client is gone.
 
@@ -105,12 +131,12 @@ async def show_events(asked: Asked) -> web.StreamResponse:
     response = web.StreamResponse(headers={**HEADERS, "Content-Type": "text/event-stream", "Cache-Control": "no-store"})
     await response.prepare(asked.request)
     told: dict[str, Any] = {}
-    changed, last = Changed(), 0.0
+    changed, last = ChangedInQueues(asked.host.queues), 0.0
     try:
         while not asked.is_gone() and not asked.host.ending.is_set():
-            state, now = state_of(asked.keeper), time.monotonic()
+            state, now = state_of(asked.host.queues), time.monotonic()
             if state != told:
-                event = {**state, **changed.names(asked.keeper, state["operations"])}
+                event = {**state, **changed.names()}
                 await response.write(f"data: {json.dumps(event)}\n\n".encode())
             elif now - last >= QUIET_SECONDS:
                 await response.write(b":\n\n")

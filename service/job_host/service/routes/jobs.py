@@ -15,7 +15,7 @@ from job_host.service.keepers.keeper import Steps
 from job_host.service.pages import USUAL_SIZE, Page
 from job_host.service.problems import bad_request, of_refusal
 from job_host.service.routes import views
-from job_host.service.terms.calls import Kept
+from job_host.service.terms.calls import Call, Kept
 
 
 def answer_of(reply: bytes, seen: int | None = None) -> dict[str, Any]:
@@ -37,7 +37,12 @@ def told_by(kept: Kept) -> dict[str, Any]:
 
 
 async def start_instance(asked: Asked) -> web.StreamResponse:
-    body = await asked.body()
+    call = start_call(asked, await asked.body())
+    return begun(asked, await asked.keeper.submit(call), 201)
+
+
+def start_call(asked: Asked, body: dict[str, Any]) -> Call:
+    """The call of a start."""
     expect_members(body, "jobName", "jobXMLName", "jobParameters")
     job = body.get("jobName", body.get("jobXMLName"))
     if job is None:
@@ -49,7 +54,7 @@ async def start_instance(asked: Asked) -> web.StreamResponse:
     call = asked.call("start", members, fingerprint("start", members), is_once=is_once)
     if asked.keeper.is_versioned and isinstance(job, str):
         call = replace(call, resolve=lambda: to_start(asked, members))
-    return begun(asked, await asked.keeper.submit(call), 201)
+    return call
 
 
 async def to_start(asked: Asked, members: Members) -> Members:
@@ -86,7 +91,7 @@ async def show_instance_of(asked: Asked) -> web.StreamResponse:
 
 async def purge_instance(asked: Asked) -> web.StreamResponse:
     members = {"instance": asked.path_number()}
-    kept = await asked.host.purge(asked.call("purge", members, fingerprint("purge", members)))
+    kept = await asked.purge(asked.call("purge", members, fingerprint("purge", members)))
     told_by(kept)
     return asked.answer({**members, "purged": True}, kept.seen)
 

@@ -160,7 +160,7 @@ def wanted_of(asked: Asked) -> Wanted:
     search = search_of(asked).lower()
     since, until = day_of(asked, "createdFrom"), day_of(asked, "createdUntil")
     numbers = asked.keeper.reading().made_between(since, None if until is None else until + DAY)
-    return Wanted(statuses, given.get("jobName"), search, asked.query_flag("mostRecent"), numbers)
+    return Wanted(statuses, given.get("jobName"), search, asked.query_flag("mostRecent"), numbers, asked.outside(0))
 
 
 def search_of(asked: Asked) -> str:

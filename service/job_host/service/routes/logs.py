@@ -43,8 +43,8 @@ async def show_logs(asked: Asked) -> web.StreamResponse:
         return asked.answer(rows, answers.seen)
     logs = await asked.keeper.logs(wanted)
     if is_text:
-        text = "".join(f"# work item {log.work}, {log.element}\n{log.text}\n" for log in logs)
-        return web.Response(text=text, headers={OPERATIONS: str(answers.seen)})
+        text = "".join(f"# work item {asked.outside(log.work)}, {log.element}\n{log.text}\n" for log in logs)
+        return web.Response(text=text, headers={OPERATIONS: asked.seen_text(answers.seen)})
     return asked.answer([{**place(log), "log": log.text} for log in logs], answers.seen)
 
 
@@ -68,7 +68,7 @@ async def show_log(asked: Asked) -> web.StreamResponse:
     answer_of(answers.replies[0], answers.seen)
     start = told_from(log.text, offset, known)
     if is_text:
-        return web.Response(text=log.text[start:], headers={OPERATIONS: str(answers.seen)})
+        return web.Response(text=log.text[start:], headers={OPERATIONS: asked.seen_text(answers.seen)})
     told = {**place(log), "executionId": log.execution, "offset": start, "end": len(log.text), "digest": digest_of(log.text)}
     return asked.answer({**told, "log": log.text[start:]}, answers.seen)
 

@@ -19,7 +19,7 @@ from job_host.service.keepers.workers import Worker, is_draining, workers_page
 from job_host.service.problems import Problem, bad_request
 from job_host.service.routes import views
 from job_host.service.routes.jobs import told_by
-from job_host.service.terms.calls import Kept
+from job_host.service.terms.calls import Call, Kept
 from job_host.service.versions.book import FileNotKept
 
 # Words of a query that narrow the list of busy work items.
@@ -37,17 +37,28 @@ async def claim(asked: Asked) -> web.StreamResponse:
     """Claims a work item. With `wait` it takes up to so many seconds until there is one."""
     body = await asked.body()
     expect_members(body, "wait", "artifacts")
+    wait = wait_of(asked, body)
+    if "artifacts" in body:
+        asked.keeper.leading().workers.note_artifacts(asked.named_client(), artifacts_of(body["artifacts"]))
+    asked.named_client()
+    call = claim_call(asked, wait)
+    with asked.waiting() if wait > 0 else nullcontext():
+        return claimed(asked, await asked.keeper.submit(call))
+
+
+def wait_of(asked: Asked, body: dict[str, Any]) -> float:
+    """For how many seconds a claim waits."""
     wait = body.get("wait", 0)
     longest = asked.host.settings.bounds.longest_poll
     if isinstance(wait, bool) or not isinstance(wait, (int, float)) or not 0 <= wait <= longest:
         raise bad_request(f"wait is a number of seconds from 0 to {longest:g}")
-    if "artifacts" in body:
-        asked.keeper.leading().workers.note_artifacts(asked.named_client(), artifacts_of(body["artifacts"]))
-    asked.named_client()
-    waiting: dict[str, Any] = {"wait": float(wait), "is_gone": asked.is_gone, "is_unheard": asked.is_unheard}
-    call = asked.call("claim", {}, fingerprint("claim"), **waiting)
-    with asked.waiting() if wait > 0 else nullcontext():
-        return claimed(asked, await asked.keeper.submit(call))
+    return float(wait)
+
+
+def claim_call(asked: Asked, wait: float = 0.0) -> Call:
+    """The call of a claim, which waits for so many seconds."""
+    waiting: dict[str, Any] = {"wait": wait, "is_gone": asked.is_gone, "is_unheard": asked.is_unheard} if wait else {}
+    return asked.call("claim", {}, fingerprint("claim"), **waiting)
 
 
 def artifacts_of(names: Any) -> list[str]:
@@ -101,8 +112,12 @@ async def withdraw(asked: Asked) -> web.StreamResponse:
 
 async def list_held(asked: Asked) -> web.StreamResponse:
     """Which client holds which work item since when, page by page. With `withJobs` each has the job's name."""
+    return await show_held(asked, held_page(asked))
+
+
+async def show_held(asked: Asked, wanted: HeldPage) -> web.StreamResponse:
     with_jobs = asked.query_flag("withJobs")
-    held, seen = await asked.keeper.held_work(held_page(asked), asked.at_least)
+    held, seen = await asked.keeper.held_work(wanted, asked.at_least)
     told: list[dict[str, Any]] = [
         {
             "work": one.held.work,

@@ -31,9 +31,15 @@ REPORTS = ("checkpoint", "finish")
 
 @dataclass(frozen=True)
 class Observers:
-    """Who is told how long a commit took, and of how many replies it was."""
+    """Who is told how long a commit took, and of how many replies it was; and that there may be work.
+
+    `admit` raises what keeps a start or a restart from being made, with no other line between it and the call's own. Without
+    it each is made.
+    """
 
     commit: Callable[[float, int], None] = lambda seconds, replies: None
+    work: Callable[[], None] = lambda: None
+    admit: Callable[[Engine, Call], Awaitable[None]] | None = None
 
 
 @dataclass(frozen=True)
@@ -65,7 +71,8 @@ class Term(ABC):
         self._making = 0
         # What is kept of a client's request key beside the replies: a change of a job.
         self.find_change: Callable[[str, str], KeptRequest | None] = lambda client, key: None
-        engine.may_give_work = self.desk.wake
+        engine.may_give_work = self._wake_claims
+        observers.work()
 
     @abstractmethod
     async def find(self, session: int, key: str) -> KeptRequest | None:
@@ -111,7 +118,8 @@ class Term(ABC):
     def _at_once(self, call: Call, key: str) -> asyncio.Future[Kept] | None:
         """Hands over a call by a new key if nothing has to be asked or waited for before. Returns none if something has."""
         is_plain = call.do != "claim" and call.make is None and call.resolve is None and call.confirm is None
-        if not is_plain or self.engine.turn.locked() or not self.sessions.is_known(call.client):
+        is_admitted = call.do not in MAKING or self.observers.admit is None
+        if not (is_plain and is_admitted) or self.engine.turn.locked() or not self.sessions.is_known(call.client):
             return None
         if self._may_be_kept(call, key):
             return None
@@ -146,23 +154,30 @@ class Term(ABC):
     async def _once(self, call: Call, key: str) -> Kept:
         with self.sessions.hearing(call.client):
             await self.meet(call.client)
-            session = EVERYBODY_SESSION if call.is_once else self.sessions.known(call.client)
-            may_be_found = session is not None and self.keys.may_have(session, key)
-            found = await self.find(session, key) if session is not None and may_be_found else None
-            if found is not None and call.is_once and await self._is_purged(found.kept):
-                await self.forget(key, found.kept)
-                found = None
-            if found is None and not call.is_once:
-                found = self.find_change(call.client, key)
-            if found is None:
-                return await self._perform(call)
-            if found.fingerprint != call.fingerprint:
-                raise key_reused()
-            if found.kept.reply == REPLY_NOT_KEPT:
-                raise Problem(
-                    "ReplyNotKept", 409, "a call with this key may stand before the base of the log: it isn't made again"
-                )
-            return found.kept
+            kept = await self.kept_reply(call, key)
+            return kept if kept is not None else await self._perform(call)
+
+    async def kept_reply(self, call: Call, key: str) -> Kept | None:
+        """The first reply of a call's key, if there was one. Its client has been met, and is heard now."""
+        session = EVERYBODY_SESSION if call.is_once else self.sessions.known(call.client)
+        may_be_found = session is not None and self.keys.may_have(session, key)
+        found = await self.find(session, key) if session is not None and may_be_found else None
+        if found is not None and call.is_once and await self._is_purged(found.kept):
+            await self.forget(key, found.kept)
+            found = None
+        if found is None and not call.is_once:
+            found = self.find_change(call.client, key)
+        if found is None:
+            return None
+        if found.fingerprint != call.fingerprint:
+            raise key_reused()
+        if found.kept.reply == REPLY_NOT_KEPT:
+            raise Problem("ReplyNotKept", 409, "a call with this key may stand before the base of the log: it isn't made again")
+        return found.kept
+
+    def _wake_claims(self) -> None:
+        self.desk.wake()
+        self.observers.work()
 
     async def _is_purged(self, started: Kept) -> bool:
         """Whether the job instance that a start made is there no more."""
@@ -215,7 +230,7 @@ class Term(ABC):
             raise self.failure
         if self.desk.is_withdrawn(call):
             raise ClaimWithdrawn()
-        if call.do in ("start", "restart") and self.engine.entered >= self.settings.refuse_from:
+        if call.do in MAKING and self.engine.entered >= self.settings.refuse_from:
             told = f"from {self.settings.refuse_from} operations on what runs can end, and nothing can be started"
             raise unavailable("HistoryAlmostFull", told, operations=self.committed)
 
@@ -225,6 +240,8 @@ class Term(ABC):
             if call.confirm is not None:
                 await call.confirm()
             self.check(call)
+            if call.do in MAKING and self.observers.admit is not None:
+                await self.observers.admit(self.engine, call)
             item = self.item_of(call)
             self.hand(item)
         return item

@@ -19,12 +19,26 @@ class FileNotKept(Exception):
     """The file of a version isn't kept, so that nobody knows its properties, and what workers do for its steps."""
 
 
-class JobBook:
-    """Versions by their ids in the catalogue's order. `file_of` gives the kept file of one, `read` what it has for workers."""
+def nowhere(name: str) -> str | None:
+    """There is one queue alone."""
+    return None
 
-    def __init__(self, file_of: Callable[[Change], JobFile | None], read: Callable[[JobFile], ForWorkers]) -> None:
+
+class JobBook:
+    """Versions by their ids in the catalogue's order. `file_of` gives the kept file of one, `read` what it has for workers.
+
+    `elsewhere` names the other queue in which a job may be started, if there is one.
+    """
+
+    def __init__(
+        self,
+        file_of: Callable[[Change], JobFile | None],
+        read: Callable[[JobFile], ForWorkers],
+        elsewhere: Callable[[str], str | None] = nowhere,
+    ) -> None:
         self._file_of = file_of
         self._read = read
+        self.elsewhere = elsewhere
         # Those of the catalogue, and beside them those that have left it.
         self._jobs: dict[str, Mapping[str, Any]] = {}
         self._known: dict[str, Mapping[str, Any]] = {}
@@ -115,6 +129,14 @@ class JobBook:
 
     def is_withdrawn(self, name: str) -> bool:
         return name in self._withdrawn
+
+    def has(self, name: str) -> bool:
+        """Whether a job may be started here."""
+        return name in self._newest and name not in self._withdrawn
+
+    def last_change(self, name: str) -> int:
+        """The moment of the last change of a job, and 0 if there is none."""
+        return max((one.moment for one in self.changes if one.name == name), default=0)
 
     def is_applied(self, job: str) -> bool:
         """Whether somebody's change that made this version is kept, with its file."""
