@@ -5,6 +5,7 @@
     service/soak.py standby --kills 20        the same over a primary and a standby, which is promoted if the primary is killed
     service/soak.py embedded --kills 200      one instance over batchctl's log
     service/soak.py embedded --only store     a kind of fault alone (soak_faults.py has them)
+    service/soak.py embedded --queues         each of these with three queues, and a job in each
 
 It prints what it harmed and what it compared, and ends with status 1 if anything is otherwise than it has to be. The program is
 JOBHOST_BATCHCTL, or the one that this clone has built.
@@ -38,13 +39,17 @@ from postgres_server import PostgresServer  # noqa: E402
 from soak_check import Acknowledged, Lost, Operation, Read, Seen, Wrong, check  # noqa: E402
 from soak_faults import KINDS, Faults  # noqa: E402
 from soak_proxy import Proxy  # noqa: E402
+from soak_queues import QUEUES, data_of, queue_of_job, queues_file, tables_of, with_queues, write_jobs  # noqa: E402
 from soak_scene import SLOW_SECONDS, write_scene  # noqa: E402
 from workers import WorkerProcess  # noqa: E402
 
 from job_host.catalogue.jobs import read_file  # noqa: E402
 from job_host.commands.program import find_batchctl  # noqa: E402
+from job_host.protocol.seen import NOTHING, both, in_queue, read_seen, written  # noqa: E402
+from job_host.protocol.seen import Seen as Operations  # noqa: E402
 from job_host.service.history import log_file  # noqa: E402
 from job_host.service.history.tags import read_tag  # noqa: E402
+from job_host.service.ids import inside  # noqa: E402
 
 CLIENTS, WORKERS, SLOTS = 8, 4, 2
 TAKEOVER, LEASE = 1.0, 3.0
@@ -83,11 +88,13 @@ JOBS = [
 class Parts:
     """All processes of a soak. Each worker has a folder of its own, and what artifacts note is in one folder.
 
-    With a slowness of 2 everything may take twice as long.
+    With a slowness of 2 everything may take twice as long. With `has_queues` each of the jobs has a queue of its own.
     """
 
     jobs = JOBS
     executables = {"counted": COUNTED}
+
+    has_queues = False
 
     def __init__(self, mode: str, folder: Path, slowness: float = 1.0, worker_count: int = WORKERS) -> None:
         self.mode = mode
@@ -105,8 +112,8 @@ class Parts:
         self.proxies: list[Proxy] = []
         self.ways: list[Proxy] = []
         self.workers: list[WorkerProcess] = []
-        # How many operations there were at each loss of the SQLite file, and how often a folder of artifacts was lost.
-        self.stores_lost: list[int] = []
+        # How many operations each queue had at each loss of the SQLite files, and how often a folder of artifacts was lost.
+        self.stores_lost: list[list[int]] = []
         self.folders_lost = 0
         # When which faults began and ended.
         self.faults: list[str] = []
@@ -118,6 +125,8 @@ class Parts:
     def prepare(self) -> None:
         self.prepare_artifacts()
         self.catalogue.write_text(json.dumps({"jobs": self.jobs}))
+        if self.has_queues:
+            write_jobs(self.folder / "jobs", self.jobs)
         if self.mode != "embedded":
             self.servers.append(PostgresServer.make())
             self.servers[0].start()
@@ -149,8 +158,10 @@ class Parts:
 
     def words(self) -> list[str]:
         """The words of an instance, but for its own addresses."""
-        words = ["--catalogue", str(self.catalogue), "--batchctl", self.batchctl[0]]
-        words += ["--takeover-after", str(TAKEOVER), "--lease", str(LEASE)]
+        words = ["--catalogue", str(self.catalogue)]
+        if self.has_queues:
+            words = ["--jobs", str(self.folder / "jobs"), "--queues", str(queues_file(self.folder))]
+        words += ["--batchctl", self.batchctl[0], "--takeover-after", str(TAKEOVER), "--lease", str(LEASE)]
         if self.mode == "embedded":
             return [*words, "--data", str(self.folder / "data")]
         for server in self.servers:
@@ -177,14 +188,20 @@ class Parts:
         """The folder of a worker's artifacts."""
         return self.folder / f"worker-{place}"
 
+    @property
+    def queues(self) -> range:
+        """The numbers of the queues."""
+        return range(len(QUEUES) if self.has_queues else 1)
+
     def new_worker(self, place: int) -> WorkerProcess:
-        return WorkerProcess(",".join(self.urls), self.folder_of(place), SLOTS)
+        more = ["--queues", with_queues(place)] if self.has_queues else []
+        return WorkerProcess(",".join(self.urls), self.folder_of(place), SLOTS, more)
 
     def lose_store(self) -> None:
-        """Takes the SQLite file from a service that is dead. Notes how many operations the log has, which nobody has open."""
-        for path in (self.folder / "data").glob("beside.sqlite*"):
+        """Takes the SQLite files from a service that is dead. Notes how many operations the closed logs have."""
+        for path in (self.folder / "data").rglob("beside.sqlite*"):
             path.unlink()
-        self.stores_lost.append(len(records_of_log(self)))
+        self.stores_lost.append([len(records_of_log(self, queue)) for queue in self.queues])
 
     async def until_ready(self) -> None:
         try:
@@ -225,7 +242,7 @@ class SoakClient:
         self._seen = seen
         self._chance = chance
         self._ending = ending
-        self._least = 0
+        self._least: Operations = NOTHING
         self._known: list[int] = []
         self._open: list[int] = []
         self._calls: list[tuple[str, str, Any, str, Answer, int]] = []
@@ -282,10 +299,18 @@ class SoakClient:
     async def _call(self, do: str, method: str, path: str, body: Any, members: dict[str, Any]) -> Answer:
         key, stores_lost = uuid.uuid4().hex, len(self._parts.stores_lost)
         answer = await self._until_answered(method, path, body, key)
-        self._seen.calls.append(Acknowledged(self._name, key, do, members, answer.status, answer.told, answer.operations or 0))
+        queue = self._queue_of(members)
+        seen = in_queue(seen_by(answer), queue)
+        self._seen.calls.append(Acknowledged(self._name, key, do, members, answer.status, answer.told, seen, queue))
         self._calls.append((method, path, body, key, answer, stores_lost))
-        self._least = max(self._least, answer.operations or 0)
+        self._least = both(self._least, seen_by(answer))
         return answer
+
+    def _queue_of(self, members: dict[str, Any]) -> int:
+        """The queue of a call: that of its job, or of its job execution."""
+        if "execution" in members:
+            return inside(members["execution"]).queue
+        return queue_of_job(members["job"]) if self._parts.has_queues else 0
 
     async def _ask_again(self) -> None:
         """Asks once more by a key that was answered: it has to be the first reply.
@@ -297,7 +322,7 @@ class SoakClient:
             answer = await self._until_answered(method, path, body, key)
             if before.status >= 400 and len(self._parts.stores_lost) > stores_lost:
                 return
-            if (answer.status, answer.told, answer.operations) != (before.status, before.told, before.operations):
+            if (answer.status, answer.told, answer.seen) != (before.status, before.told, before.seen):
                 raise Wrong(f"{self._name}, {key}: first {before}, then {answer}")
 
     async def _read(self) -> None:
@@ -305,9 +330,11 @@ class SoakClient:
 
     async def _read_execution(self, execution: int) -> Answer:
         least = self._least
-        answer = await self._until_answered("GET", f"/batch/jobexecutions/{execution}?atLeast={least}", None, None)
-        self._seen.reads.append(Read(self._name, execution, answer.status, answer.told, answer.operations or 0, least))
-        self._least = max(self._least, answer.operations or 0)
+        path, queue = f"/batch/jobexecutions/{execution}?atLeast={written(least)}", inside(execution).queue
+        answer = await self._until_answered("GET", path, None, None)
+        seen = in_queue(seen_by(answer), queue), in_queue(least, queue)
+        self._seen.reads.append(Read(self._name, execution, answer.status, answer.told, *seen, queue))
+        self._least = both(self._least, seen_by(answer))
         return answer
 
     async def _until_answered(self, method: str, path: str, body: Any, key: str | None) -> Answer:
@@ -343,28 +370,33 @@ class SoakClient:
         await write_scene(self._parts, f"{called} isn't answered for {seconds:g} seconds")
 
 
-async def operations_of(parts: Parts) -> list[Operation]:
-    """The whole history, as it was kept."""
+def seen_by(answer: Answer) -> Operations:
+    """How many operations of each queue an answer saw."""
+    return read_seen(answer.seen) if answer.seen else NOTHING
+
+
+async def operations_of(parts: Parts, queue: int = 0) -> list[Operation]:
+    """The whole history of a queue, as it was kept."""
     if parts.mode != "embedded":
         import asyncpg
 
-        table = await asyncpg.connect(parts.servers[0].dsn)
+        table = await asyncpg.connect(tables_of(parts.servers[0].dsn, queue))
         rows = await table.fetch("select number, line, reply, request_key from job_host_operation order by number")
         await table.close()
         return [Operation(row["number"], row["line"].encode(), row["reply"].encode(), row["request_key"]) for row in rows]
-    return operations_of_log(parts)
+    return operations_of_log(parts, queue)
 
 
-def records_of_log(parts: Parts) -> list[log_file.LogRecord]:
-    records = log_file.records(parts.folder / "data" / "history.log")
+def records_of_log(parts: Parts, queue: int = 0) -> list[log_file.LogRecord]:
+    records = log_file.records(data_of(parts.folder / "data", queue) / "history.log")
     return [record for record in records if record.is_operation]
 
 
-def operations_of_log(parts: Parts) -> list[Operation]:
+def operations_of_log(parts: Parts, queue: int = 0) -> list[Operation]:
     """The log's lines with the replies of a replay, and with their keys."""
     import subprocess
 
-    records = records_of_log(parts)
+    records = records_of_log(parts, queue)
     script = b"\n".join([read_file(parts.catalogue), *(record.line for record in records)]) + b"\n"
     replies = subprocess.run([*parts.batchctl, "script"], input=script, capture_output=True, check=True).stdout.splitlines()
     tags = [read_tag(record.tag) for record in records]
@@ -372,17 +404,17 @@ def operations_of_log(parts: Parts) -> list[Operation]:
     return [Operation(number, record.line, reply, tag.key if tag else None) for number, (record, reply, tag) in told]
 
 
-async def until_quiet(parts: Parts, least: int) -> int:
+async def until_quiet(parts: Parts, least: int | Operations) -> int:
     """Waits until no job execution is unfinished, as long as their number changes. Returns how many operations that saw.
 
     So many it sees at least. One that lags may know neither what was started last nor what was restarted.
     """
     before: dict[str, int] = {}
-    changed = time.monotonic()
+    changed, at_least = time.monotonic(), written(least) if isinstance(least, tuple) else str(least)
     while time.monotonic() < changed + QUIET_SECONDS * parts.slowness:
         for service in parts.services:
             try:
-                answer = await Caller(service.url).ask("GET", f"/batch/jobs?atLeast={least}")
+                answer = await Caller(service.url).ask("GET", f"/batch/jobs?atLeast={at_least}")
                 counts = answer.told["statusCounts"]
             except (aiohttp.ClientError, KeyError, OSError):
                 continue
@@ -439,7 +471,8 @@ async def work_under_faults(parts: Parts, plan: Plan, names: Iterable[str] | Non
     await asyncio.sleep(1.0)
     ending.set()
     await until_answered(parts, running)
-    await until_quiet(parts, max((call.operations for call in seen.calls), default=0))
+    most = [max((call.operations for call in seen.calls if call.queue == one), default=0) for one in parts.queues]
+    await until_quiet(parts, tuple(most))
     parts.stop()
     return seen, faults.made
 
@@ -454,17 +487,25 @@ async def until_answered(parts: Parts, running: Sequence[asyncio.Task[None]]) ->
         raise Wrong(f"{len(waiting)} clients weren't answered for {QUIET_SECONDS * parts.slowness:g} seconds")
 
 
-def compare(parts: Parts, operations: Sequence[Operation], seen: Seen) -> dict[str, int]:
-    """Raises Wrong if something is otherwise than it has to be. Returns how much was compared."""
+def compare(parts: Parts, operations: Sequence[Operation], seen: Seen, queue: int = 0) -> dict[str, int]:
+    """Raises Wrong if something of a queue is otherwise than it has to be. Returns how much was compared."""
     # A worker whose folder is gone may have claimed for each of its slots before it looked.
-    lost = Lost(parts.stores_lost, parts.folders_lost * SLOTS)
-    return check(parts.batchctl, read_file(parts.catalogue), operations, seen, parts.artifacts, lost)
+    lost = Lost([each[queue] for each in parts.stores_lost], parts.folders_lost * SLOTS)
+    return check(parts.batchctl, read_file(parts.catalogue), operations, seen, parts.artifacts, lost, queue)
+
+
+def compare_all(parts: Parts, seen: Seen) -> dict[str, int]:
+    """The same of all queues."""
+    told = Counter[str]()
+    for queue in parts.queues:
+        told.update(compare(parts, asyncio.run(operations_of(parts, queue)), seen, queue))
+    return dict(told)
 
 
 def run(parts: Parts, plan: Plan) -> None:
     parts.prepare()
     seen, made = asyncio.run(soak(parts, plan))
-    told = compare(parts, asyncio.run(operations_of(parts)), seen)
+    told = compare_all(parts, seen)
     print(f"killed: {dict(made)}; seed {plan.seed}")
     print("compared: " + ", ".join(f"{count} {what}" for what, count in told.items()))
     if made.total() < plan.kills:
@@ -483,6 +524,7 @@ def main() -> int:
     parser.add_argument("--workers", type=int, default=WORKERS)
     slowness = "how many times as long everything may take, on a machine with other work (default: %(default)g)"
     parser.add_argument("--slowness", type=float, default=1.0, metavar="FACTOR", help=slowness)
+    parser.add_argument("--queues", action="store_true", help="three queues, with a job in each (default: one queue)")
     parser.add_argument("--keep", action="store_true", help="leaves the folder with all logs")
     given = parser.parse_args()
     for name in given.only:
@@ -490,6 +532,7 @@ def main() -> int:
             parser.error(f"{name} is no kind of fault for {given.mode}")
     plan = Plan(given.kills, given.seed, given.only, given.most_seconds, given.clients)
     parts = Parts(given.mode, Path(tempfile.mkdtemp(prefix="jobhost-soak-")), given.slowness, given.workers)
+    parts.has_queues = given.queues
     try:
         run(parts, plan)
     except Wrong as wrong:

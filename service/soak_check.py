@@ -7,13 +7,14 @@ import subprocess
 import sys
 from collections import Counter, defaultdict
 from collections.abc import Iterator, Sequence
-from dataclasses import dataclass, field
+from dataclasses import dataclass, field, replace
 from pathlib import Path
 from typing import Any
 
 sys.path.insert(0, str(Path(__file__).resolve().parent))
 
 from job_host.protocol.lines import command, query  # noqa: E402
+from job_host.service.ids import inside, told_outside  # noqa: E402
 from job_host.service.routes import views  # noqa: E402
 
 
@@ -42,6 +43,7 @@ class Acknowledged:
     status: int
     told: dict[str, Any]
     operations: int
+    queue: int = 0
 
 
 @dataclass(frozen=True)
@@ -54,6 +56,7 @@ class Read:
     told: dict[str, Any]
     operations: int
     least: int
+    queue: int = 0
 
 
 @dataclass(frozen=True)
@@ -77,6 +80,18 @@ class Seen:
 
     calls: list[Acknowledged] = field(default_factory=list)
     reads: list[Read] = field(default_factory=list)
+
+    def of(self, queue: int) -> Seen:
+        """What is about one queue, with the numbers of job executions as that has them."""
+        calls = [replace(one, members=members_inside(one.members)) for one in self.calls if one.queue == queue]
+        reads = [replace(one, execution=inside(one.execution).number) for one in self.reads if one.queue == queue]
+        return Seen(calls, reads)
+
+
+def members_inside(members: dict[str, Any]) -> dict[str, Any]:
+    if "execution" not in members:
+        return members
+    return {**members, "execution": inside(members["execution"]).number}
 
 
 def replay(
@@ -177,11 +192,10 @@ def check_call(call: Acknowledged, operation: Operation) -> None:
     line, reply = json.loads(operation.line), json.loads(operation.reply)
     if line["do"] != call.do or any(line[name] != value for name, value in call.members.items()):
         raise Wrong(f"{call} is in the history as {line}")
-    if call.operations != operation.number or call.told.get("executionId") != reply.get(
-        "execution", call.told.get("executionId")
-    ):
+    told = told_outside({"executionId": reply["execution"]} if "execution" in reply else {}, call.queue)
+    if call.operations != operation.number or not told.items() <= call.told.items():
         raise Wrong(f"{call} is in the history as number {operation.number} with the reply {reply}")
-    if call.told.get("work") != reply.get("work"):
+    if call.told.get("work") != told_outside(reply, call.queue).get("work"):
         raise Wrong(f"{call} was handed a work item, and in the history the reply is {reply}")
 
 
@@ -197,7 +211,7 @@ def check_beside(replayed: Replayed) -> None:
         if item.status == 200:
             execution, parameters, steps = replies
             told = views.job_execution(execution["job_execution"], parameters["parameters"], steps["step_executions"])
-            if told != item.told:
+            if told_outside(told, item.queue) != item.told:
                 raise Wrong(f"{item}: the replay tells {told}")
         elif replies[0].get("refused") != item.told.get("title"):
             raise Wrong(f"{item}: the replay answers {replies[0]}")
@@ -222,16 +236,22 @@ def unstarted(operations: Sequence[Operation]) -> list[int]:
     return [line["work"] for line in failed if line["work"] not in chunks]
 
 
-def check_artifacts(operations: Sequence[Operation], folder: Path, lost: Lost) -> None:
+def works_in(path: Path, queue: int) -> list[str]:
+    """The work items of a queue that artifacts have noted, by their numbers there."""
+    noted = [inside(int(number)) for number in path.read_text().split()]
+    return [str(one.number) for one in noted if one.queue == queue]
+
+
+def check_artifacts(operations: Sequence[Operation], folder: Path, lost: Lost, queue: int = 0) -> None:
     """An artifact ran at most once for each work item, and to its end for each that its worker finished COMPLETED.
 
     What an artifact left behind ended with it. No more work items are FAILED without an exit status than folders were lost for.
     """
-    begun, ended = [Counter((folder / name).read_text().split()) for name in ("begun", "ended")]
+    begun, ended = [Counter(works_in(folder / name, queue)) for name in ("begun", "ended")]
     twice = [work for work, times in begun.items() if times > 1]
     if twice:
         raise Wrong(f"artifacts ran twice for the work items {twice}")
-    late = (folder / "late").read_text().split()
+    late = works_in(folder / "late", queue)
     if late:
         raise Wrong(f"processes that the artifacts of the work items {late} had left behind went on")
     missing = unstarted(operations)
@@ -252,21 +272,23 @@ def check(
     seen: Seen,
     artifacts: Path,
     lost: Lost = Lost(),
+    queue: int = 0,
 ) -> dict[str, int]:
-    """Compares everything, and returns how much that was."""
+    """Compares everything of a queue, and returns how much that was."""
+    seen = seen.of(queue)
     replayed = Replayed(batchctl, catalogue, operations, seen)
     check_replies(operations, replayed)
     check_moments(operations)
     check_calls(operations, seen, lost)
     check_beside(replayed)
-    check_artifacts(operations, artifacts, lost)
+    check_artifacts(operations, artifacts, lost, queue)
     refused = sum(call.status >= 400 for call in seen.calls)
     return {
         "operations": len(operations),
         "acknowledged": len(seen.calls) - refused,
         "refused": refused,
         "reads": len(seen.reads),
-        "artifact runs": len((artifacts / "begun").read_text().split()),
-        "of them with processes left behind": len((artifacts / "left").read_text().split()),
+        "artifact runs": len(works_in(artifacts / "begun", queue)),
+        "of them with processes left behind": len(works_in(artifacts / "left", queue)),
         "artifacts that weren't started": len(unstarted(operations)),
     }

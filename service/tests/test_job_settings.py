@@ -56,7 +56,7 @@ def test_the_settings_that_the_page_shows_are_read(jobs: Path) -> None:
     read = read_folder(jobs, ()).for_workers["a"]
     schedule = Schedule(read_cron("0 1 * * *"), "Europe/Berlin", "catchUp", (), "date")
     restart = RestartPolicy(True, ("TEMPORARY*",), 3, 30, 3_600)
-    policies = JobPolicies(restart, JobTimeout(14_400, 60), schedule, "night", True)
+    policies = JobPolicies(restart, JobTimeout(14_400, 60), schedule, "night", True, True)
     assert (read.steps, read.policies) == ({"load": {"timeout": 3_600}}, policies)
 
 
@@ -64,7 +64,7 @@ IN_JOB, IN_LOAD = 'settings in job "a"', 'settings in job "a", step "load" (numb
 SECONDS = 'expected a whole number of seconds from 1 to 4294967295, or a duration as `PT90S`, as "timeout"'
 ZONE = 'a time zone of this machine, as `Europe/Berlin`, as "zone"'
 CAUSE = '"afterLostWorker": true, or "exitStatuses", in restart'
-MEMBERS = '"steps", "timeout", "grace", "restart", "schedule", "queue" or "oneAtATime"'
+MEMBERS = '"steps", "timeout", "grace", "restart", "schedule", "queue", "oneAtATime" or "onceByParameters"'
 QUEUE = "the name of a queue, 1 to 64 letters, digits, points, dashes and underscores, with a letter or a digit in front"
 FAULTS = [
     ("", "1:1: NotJson: expected a value, found the end of the file"),
@@ -73,6 +73,7 @@ FAULTS = [
     ('{"step": {}}', f'1:2: {IN_JOB}: expected {MEMBERS} in the settings, found "step"; did you mean `steps`?'),
     ('{"queue": "a b"}', f'1:11: {IN_JOB}: expected {QUEUE}, as "queue", found `"a b"`'),
     ('{"queue": 5}', f'1:11: {IN_JOB}: expected {QUEUE}, as "queue", found `5`'),
+    ('{"onceByParameters": "yes"}', f'1:22: {IN_JOB}: expected true or false as "onceByParameters", found `"yes"`'),
     ('{"oneAtATime": 1}', f'1:16: {IN_JOB}: expected true or false as "oneAtATime", found `1`'),
     ('{"steps": []}', f"1:11: {IN_JOB}: expected an object, steps, found `[]`"),
     ('{"steps": {"laod": {}}}', f'1:12: {IN_JOB}: expected the id of a step, found "laod"; did you mean `load`?'),

@@ -324,3 +324,23 @@ async def test_a_client_reads_no_less_than_it_has_seen(service: Instance, monkey
         asked.clear()
         await client.read(f"/batch/jobexecutions/{NIGHT + 1}")
         assert set(asked) == {"1,1,1"}
+
+
+async def test_a_job_is_started_once_by_its_parameters(tmp_path: Path, has_log: None) -> None:
+    jobs = write_jobs(tmp_path / "jobs", {"dump": ("night", 0), "day": ("default", 0)}, dump={"onceByParameters": True})
+    async with running(queued_settings(tmp_path, jobs)) as service:
+        first, other = QueueCaller(service.url, "first"), QueueCaller(service.url, "other")
+        made = (await first.start("dump", key="a", date="1")).told["executionId"]
+        assert (await other.start("dump", key="b", date="1")).told["executionId"] == made == NIGHT + 1
+        assert (await other.start("dump", date="2")).told["executionId"] == NIGHT + 2
+        # Not so other jobs, and not after a purge.
+        assert [(await first.start("day", date="1")).told["executionId"] for _ in range(2)] == [1, 2]
+        await other.run_all("night")
+        assert (await other.ask("DELETE", f"/batch/jobinstances/{NIGHT + 1}")).told == {"instance": NIGHT + 1, "purged": True}
+        assert (await first.start("dump", date="1")).told["executionId"] == NIGHT + 3
+        # It goes with the job to another queue.
+        assert (await other.ask("DELETE", "/batch/jobs/dump")).status == 200
+        moved = Form(jsl("dump"), '{"queue": "urgent", "onceByParameters": true}')
+        assert (await other.ask("PUT", "/batch/jobs/dump", moved.body, **moved.headers)).status == 200
+        assert (await other.start("dump", date="2")).told["executionId"] == NIGHT + 2
+        assert (await other.start("dump", date="3")).told["executionId"] == URGENT + 1

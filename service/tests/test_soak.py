@@ -10,7 +10,7 @@ from pathlib import Path
 
 import black_hole
 import pytest
-from soak import Parts, Plan, compare, operations_of, soak
+from soak import Parts, Plan, compare, compare_all, operations_of, soak
 from soak_check import Lost, Operation, Seen, Wrong, check_calls, replay
 
 from job_host.catalogue.jobs import read_file
@@ -19,6 +19,7 @@ NOT_SWALLOWED = black_hole.why_not_swallowed()
 pytestmark = pytest.mark.skipif(NOT_SWALLOWED is not None, reason=str(NOT_SWALLOWED))
 # A soak of its own makes all kinds. Here stand those that leave notes or take a store or a connection away.
 EMBEDDED = ["black-hole", "store", "grandchild", "folder", "hung-batchctl", "late"]
+QUEUED = ["store", "batchctl", "worker"]
 POSTGRES = ["absent", "hung-postgres", "batchctl", "cut-off", "postgres"]
 # Enough for calls in hand at each fault. More take the processor from the other tests.
 CLIENTS, WORKERS = 3, 2
@@ -48,9 +49,10 @@ class Soaked:
         return self.operations[max(numbers) - 1]
 
 
-def soaked(mode: str, folder: Path, names: Sequence[str]) -> Soaked:
+def soaked(mode: str, folder: Path, names: Sequence[str], has_queues: bool = False) -> Soaked:
     folder.mkdir(exist_ok=True)
     parts = Parts(mode, folder, worker_count=WORKERS)
+    parts.has_queues = has_queues
     try:
         parts.prepare()
         seen, made = asyncio.run(soak(parts, Plan(len(names), 1, clients=CLIENTS), names))
@@ -70,6 +72,16 @@ def embedded_soak(tmp_path_factory: pytest.TempPathFactory, has_log: None) -> So
 def test_faults_of_one_instance_lose_nothing(embedded_soak: Soaked) -> None:
     embedded_soak.compare(embedded_soak.operations)
     assert embedded_soak.parts.stores_lost and (embedded_soak.parts.artifacts / "left").read_text()
+
+
+def test_faults_lose_nothing_of_three_queues(tmp_path: Path, has_log: None) -> None:
+    done = soaked("embedded", tmp_path / "soak", QUEUED, has_queues=True)
+    told = compare_all(done.parts, done.seen)
+    assert done.parts.stores_lost and told["operations"] > len(done.operations)
+    # Each queue has something, and an operation that another queue has is missed.
+    assert {call.queue for call in done.seen.calls} == {0, 1, 2}
+    with pytest.raises(Wrong, match="was acknowledged, and isn't in the history|and the history has fewer"):
+        compare(done.parts, done.operations, done.seen, queue=1)
 
 
 @pytest.mark.postgres
@@ -154,7 +166,8 @@ def test_a_run_that_may_not_be_is_refused(embedded_soak: Soaked, notes: Path, na
 
 
 def test_a_refused_key_makes_an_operation_only_after_a_store_was_lost(embedded_soak: Soaked) -> None:
-    seen, operations, stores = embedded_soak.seen, embedded_soak.operations, embedded_soak.parts.stores_lost
+    seen, operations = embedded_soak.seen, embedded_soak.operations
+    stores = [each[0] for each in embedded_soak.parts.stores_lost]
     call = next(call for call in seen.calls if call.status < 400)
     refused = replace(call, status=404, told={"title": "NoSuchJobExecutionException"}, operations=call.operations - 1)
     others = Seen([refused, *(one for one in seen.calls if one.key != call.key)], [])

@@ -45,7 +45,8 @@ class JobTimeout:
 class JobPolicies:
     """The policies of one version of a job. What isn't there isn't done.
 
-    With `one_at_a_time` nothing of the job is started or restarted while a job execution of it isn't finished.
+    With `one_at_a_time` nothing of the job is started or restarted while a job execution of it isn't finished. With
+    `once_by_parameters` a second start with the same parameters tells of the first one, as long as that is there.
     """
 
     restart: RestartPolicy | None = None
@@ -53,6 +54,7 @@ class JobPolicies:
     schedule: Schedule | None = None
     queue: str = DEFAULT_QUEUE
     one_at_a_time: bool = False
+    once_by_parameters: bool = False
 
 
 NO_POLICIES = JobPolicies()

@@ -20,8 +20,8 @@ from job_host.catalogue.tree import Job
 
 SUFFIX = ".settings.json"
 SETTINGS = "settings"
-STEPS, QUEUE, ONE_AT_A_TIME = "steps", "queue", "oneAtATime"
-MEMBERS = (STEPS, TIMEOUT, GRACE, RESTART, SCHEDULE, QUEUE, ONE_AT_A_TIME)
+STEPS, QUEUE, ONE_AT_A_TIME, ONCE = "steps", "queue", "oneAtATime", "onceByParameters"
+MEMBERS = (STEPS, TIMEOUT, GRACE, RESTART, SCHEDULE, QUEUE, ONE_AT_A_TIME, ONCE)
 
 
 def settings_of(path: Path) -> Path:
@@ -68,8 +68,10 @@ class SettingsFinder:
         restart = read_restart(self._reader, told[RESTART]) if RESTART in told else None
         schedule = ScheduleReader(self._reader).read(told[SCHEDULE]) if SCHEDULE in told else None
         queue = self._read_queue(told[QUEUE]) if QUEUE in told else DEFAULT_QUEUE
-        one = self._reader.truth(told[ONE_AT_A_TIME], self._job.owner(), ONE_AT_A_TIME) if ONE_AT_A_TIME in told else None
-        self.policies = JobPolicies(restart, read_timeout(self._reader, told), schedule, queue, one is True)
+        owner = self._job.owner()
+        truths = {name: self._reader.truth(told[name], owner, name) is True for name in (ONE_AT_A_TIME, ONCE) if name in told}
+        starts = [truths.get(name, False) for name in (ONE_AT_A_TIME, ONCE)]
+        self.policies = JobPolicies(restart, read_timeout(self._reader, told), schedule, queue, *starts)
 
     def _read_queue(self, value: Value) -> str:
         if isinstance(value.held, str) and NAME.fullmatch(value.held):

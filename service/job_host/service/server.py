@@ -109,8 +109,8 @@ class Service:
         self.ending = asyncio.Event()
         archive = begun_archive(settings)
         self.receiver = Receiver(settings) if settings.notify else None
-        self.parts = [self._part(one, archive) for one in self.queues]
-        _, self.purging, self.retention, self.policies = self.parts[0]
+        # The default queue's part, and those of the others.
+        (_, self.purging, self.retention, self.policies), *self._others = [self._part(one, archive) for one in self.queues]
         gate, purges = Gate(settings.bounds), {one.queue.number: one.purging.purge for one in self.parts}
         self.host = Host(settings, self.queues, self.access, gate, waits, self.ending, purges, archive)
         self.port = settings.port
@@ -124,6 +124,10 @@ class Service:
         purging = Purging(keeper, archive)
         receiver = None if self.receiver is None else Outside(self.receiver, queue.number)
         return Part(queue, purging, Retention(keeper, settings, purging), Policies(keeper, settings, receiver))
+
+    @property
+    def parts(self) -> list[Part]:
+        return [Part(self.queues.default, self.purging, self.retention, self.policies), *self._others]
 
     def application(self) -> web.Application:
         application = web.Application(client_max_size=self.settings.bounds.body_bytes)

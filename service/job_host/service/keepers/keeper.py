@@ -11,7 +11,7 @@ from dataclasses import dataclass, replace
 from typing import TYPE_CHECKING, Any, NamedTuple
 
 from job_host.catalogue.jobs import ForWorkers, ServedJobs
-from job_host.catalogue.names import PLAIN_NAMES, VERSIONED_NAMES
+from job_host.catalogue.names import PLAIN_NAMES, VERSIONED_NAMES, id_of
 from job_host.catalogue.policies import NO_POLICIES, JobPolicies
 from job_host.protocol.lines import query, read
 from job_host.service.history.actions import Action
@@ -218,6 +218,11 @@ class Keeper(ABC):
             return self.for_workers(job).policies
         except FileNotKept:
             return NO_POLICIES
+
+    def newest_policies(self, name: str) -> JobPolicies:
+        """Those of a job's newest version. There are none if the job isn't known."""
+        version = 0 if self.book is None else self.book.newest(name)
+        return self.policies(id_of(name, version)) if version else NO_POLICIES
 
     @property
     def is_ready(self) -> bool:

@@ -21,7 +21,7 @@ from job_host.service.policies.known import HELD, SCHEDULER, session_of
 from job_host.service.problems import Problem
 from job_host.service.stores.notifications import SCHEDULE_MARKS
 from job_host.service.terms import moments
-from job_host.service.terms.calls import Call
+from job_host.service.terms.calls import Call, once_by_parameters
 from job_host.service.terms.term import Term
 from job_host.service.versions.book import JobBook
 from job_host.service.versions.changes import WITHDRAW
@@ -140,6 +140,8 @@ class Schedules:
 
         key = f"schedule:{fingerprint(name, at).hex()}"
         call = Call(SCHEDULER, "start", {}, key, fingerprint("schedule", name, at), resolve, is_once=True)
+        if self._keeper.newest_policies(name).once_by_parameters:
+            call = once_by_parameters(call, name, parameters)
         try:
             told = (await self._term.submit(call)).told()
         except Problem as problem:

@@ -15,7 +15,7 @@ from job_host.service.keepers.keeper import Steps
 from job_host.service.pages import USUAL_SIZE, Page
 from job_host.service.problems import bad_request, of_refusal
 from job_host.service.routes import views
-from job_host.service.terms.calls import Call, Kept
+from job_host.service.terms.calls import Call, Kept, once_by_parameters
 
 
 def answer_of(reply: bytes, seen: int | None = None) -> dict[str, Any]:
@@ -54,6 +54,8 @@ def start_call(asked: Asked, body: dict[str, Any]) -> Call:
     call = asked.call("start", members, fingerprint("start", members), is_once=is_once)
     if asked.keeper.is_versioned and isinstance(job, str):
         call = replace(call, resolve=lambda: to_start(asked, members))
+        if asked.keeper.newest_policies(job).once_by_parameters:
+            return once_by_parameters(call, job, members["parameters"])
     return call
 
 

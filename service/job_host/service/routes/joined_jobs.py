@@ -25,13 +25,9 @@ async def start_instance(asked: Asked) -> web.StreamResponse:
     job, queues = body.get("jobName", body.get("jobXMLName")), asked.host.queues
     if not isinstance(job, str):
         return await jobs.start_instance(asked)
-    for queue in queues.once_home(job) if asked.key is not None else []:
+    for queue in queues.once_home(job):
         about = asked.of(queue)
-        call = jobs.start_call(about, body)
-        term = queue.keeper.leading()
-        with term.sessions.hearing(call.client):
-            await term.meet(call.client)
-            kept = await term.kept_reply(call, call.key or "")
+        kept = await queue.keeper.leading().kept_before(jobs.start_call(about, body))
         if kept is not None:
             return jobs.begun(about, kept, 201)
     return await jobs.start_instance(asked.of(queues.home(job)))

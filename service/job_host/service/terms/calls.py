@@ -5,10 +5,10 @@ from __future__ import annotations
 import asyncio
 import json
 from collections.abc import Awaitable, Callable, Sequence
-from dataclasses import dataclass, field
+from dataclasses import dataclass, field, replace
 from typing import Any
 
-from job_host.protocol.lines import Members, is_accepted, read
+from job_host.protocol.lines import Members, fingerprint, is_accepted, read
 from job_host.service.history.audited import Audited, Did, Origin
 from job_host.service.pages import Page
 from job_host.service.versions.changes import Growth
@@ -55,6 +55,12 @@ class Call:
     make: Callable[[Call], Awaitable[bytes]] | None = None
     confirm: Callable[[], Awaitable[None]] | None = None
     address: str = ""
+
+
+def once_by_parameters(call: Call, job: str, parameters: Any) -> Call:
+    """A start whose key is its job with its parameters, whoever starts it."""
+    key = f"parameters:{fingerprint(job, parameters).hex()}"
+    return replace(call, key=key, fingerprint=fingerprint("start", job, parameters), is_once=True)
 
 
 @dataclass(frozen=True)

@@ -157,6 +157,14 @@ class Term(ABC):
             kept = await self.kept_reply(call, key)
             return kept if kept is not None else await self._perform(call)
 
+    async def kept_before(self, call: Call) -> Kept | None:
+        """The first reply of a call's key, if there was one."""
+        if call.key is None:
+            return None
+        with self.sessions.hearing(call.client):
+            await self.meet(call.client)
+            return await self.kept_reply(call, call.key)
+
     async def kept_reply(self, call: Call, key: str) -> Kept | None:
         """The first reply of a call's key, if there was one. Its client has been met, and is heard now."""
         session = EVERYBODY_SESSION if call.is_once else self.sessions.known(call.client)
