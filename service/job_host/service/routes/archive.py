@@ -101,9 +101,9 @@ async def show_archived(asked: Asked) -> web.StreamResponse:
     histories: list[str | None] = [given] if given is not None else [asked.keeper.history, None]
     for history in histories:
         found = await read_archive(lambda: shown(archive, execution, history))
-        if found is not None:
+        if found is not None and queue_of(asked, found.record) is asked.queue:
             told = {**in_pages(found.execution, page), **origin(found.record, found.place)}
-            return web.json_response(told_outside(told, queue_of(asked, found.record).number))
+            return web.json_response(told_outside(told, asked.queue.number))
     raise Problem(GONE, 404, "the archive has no such job execution")
 
 
