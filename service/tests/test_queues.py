@@ -18,6 +18,7 @@ from workers import end_of, working
 from job_host.catalogue.jobs import JobsRefused
 from job_host.protocol.client import Address, Client
 from job_host.protocol.seen import Seen, written
+from job_host.service.problems import unavailable
 from job_host.service.server import Service
 
 
@@ -344,3 +345,33 @@ async def test_a_job_is_started_once_by_its_parameters(tmp_path: Path, has_log: 
         assert (await other.ask("PUT", "/batch/jobs/dump", moved.body, **moved.headers)).status == 200
         assert (await other.start("dump", date="2")).told["executionId"] == NIGHT + 2
         assert (await other.start("dump", date="3")).told["executionId"] == URGENT + 1
+
+
+async def test_a_claim_that_waits_is_told_that_a_queue_fails(service: Instance) -> None:
+    """It is made again by its key: what it was given, if anything, is found then."""
+    caller = QueueCaller(service.url)
+    waiting = asyncio.ensure_future(caller.claim_of("urgent", "night", wait=20))
+    await asyncio.sleep(0.3)
+    term = service.service.queues.named("night").keeper.leading()
+    term.fail(unavailable("CoProcessEnded", "batchctl has ended"))
+    answer = await asyncio.wait_for(waiting, 10)
+    assert answer.status == 503 and answer.name in ("CoProcessEnded", "Starting")
+    # The others go on meanwhile, and so does this one soon.
+    await caller.start("alarm")
+    assert (await caller.claim_of("urgent")).told["jobName"] == "alarm"
+
+    async def leads() -> bool:
+        return service.service.queues.role == "leader"
+
+    await until(leads)
+    await caller.start("dump")
+    assert (await caller.claim_of("urgent", "night", wait=10)).told["jobName"] == "dump"
+
+
+async def test_claims_end_with_the_service(tmp_path: Path, jobs: Path) -> None:
+    async with running(queued_settings(tmp_path, jobs)) as service:
+        waiting = asyncio.ensure_future(QueueCaller(service.url).claim_of("urgent", wait=30))
+        await asyncio.sleep(0.3)
+        assert not waiting.done()
+    answer = await asyncio.wait_for(waiting, 5)
+    assert (answer.status, answer.name) == (503, "Starting")

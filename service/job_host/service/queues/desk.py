@@ -201,7 +201,7 @@ class ClaimsDesk:
             await self._wake.wait()
             self._wake.clear()
             for waiter in list(self._waiting):
-                if not waiter.call.is_unheard() and not self._end_gone(waiter) and self._may_find(waiter):
+                if not self._end_gone(waiter) and not waiter.call.is_unheard() and self._may_find(waiter):
                     await self._serve_one(waiter)
 
     def _may_find(self, waiter: Waiter) -> bool:
@@ -241,7 +241,7 @@ class ClaimsDesk:
                 term.desk.note_asked()
                 if term.failure is not None:
                     raise term.failure
-        except Problem as problem:
+        except Exception as problem:
             waiter.end(problem)
             return True
         return False
