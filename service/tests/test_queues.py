@@ -33,6 +33,15 @@ async def service(tmp_path: Path, jobs: Path) -> AsyncIterator[Instance]:
         yield instance
 
 
+async def until_waiting(service: Instance) -> None:
+    """Returns after a claim waits."""
+
+    async def waits() -> bool:
+        return service.service.queues.waiting == 1
+
+    await until(waits)
+
+
 async def test_each_queue_numbers_its_own(service: Instance) -> None:
     caller = QueueCaller(service.url)
     made = [(await caller.start(job)).told for job in ("day", "alarm", "dump", "alarm")]
@@ -67,8 +76,8 @@ async def test_a_claim_waits_for_each_of_its_queues(service: Instance) -> None:
     caller, key = QueueCaller(service.url), uuid.uuid4().hex
     for job, queue in (("alarm", "urgent"), ("dump", "night"), ("alarm", "urgent")):
         waiting = asyncio.ensure_future(caller.claim_of("urgent", "night", wait=20))
-        await asyncio.sleep(0.3)
-        assert not waiting.done() and service.service.queues.waiting == 1
+        await until_waiting(service)
+        assert not waiting.done()
         await caller.start(job)
         told = (await asyncio.wait_for(waiting, 10)).told
         assert told["jobName"] == job
@@ -226,7 +235,7 @@ async def test_a_queue_keeps_its_bounds(tmp_path: Path, has_log: None) -> None:
         work = (await caller.claim_of("urgent")).told["work"]["work"]
         assert (await caller.claim_of("urgent")).told == {"nothing": True}
         waiting = asyncio.ensure_future(caller.claim_of("urgent", wait=20))
-        await asyncio.sleep(0.3)
+        await until_waiting(service)
         assert not waiting.done()
         await caller.finish(work)
         assert (await asyncio.wait_for(waiting, 10)).told["jobName"] == "alarm"
@@ -351,7 +360,7 @@ async def test_a_claim_that_waits_is_told_that_a_queue_fails(service: Instance) 
     """It is made again by its key: what it was given, if anything, is found then."""
     caller = QueueCaller(service.url)
     waiting = asyncio.ensure_future(caller.claim_of("urgent", "night", wait=20))
-    await asyncio.sleep(0.3)
+    await until_waiting(service)
     term = service.service.queues.named("night").keeper.leading()
     term.fail(unavailable("CoProcessEnded", "batchctl has ended"))
     answer = await asyncio.wait_for(waiting, 10)
@@ -371,7 +380,7 @@ async def test_a_claim_that_waits_is_told_that_a_queue_fails(service: Instance) 
 async def test_claims_end_with_the_service(tmp_path: Path, jobs: Path) -> None:
     async with running(queued_settings(tmp_path, jobs)) as service:
         waiting = asyncio.ensure_future(QueueCaller(service.url).claim_of("urgent", wait=30))
-        await asyncio.sleep(0.3)
+        await until_waiting(service)
         assert not waiting.done()
     answer = await asyncio.wait_for(waiting, 5)
     assert (answer.status, answer.name) == (503, "Starting")

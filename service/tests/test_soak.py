@@ -78,9 +78,9 @@ def test_faults_lose_nothing_of_three_queues(tmp_path: Path, has_log: None) -> N
     done = soaked("embedded", tmp_path / "soak", QUEUED, has_queues=True)
     told = compare_all(done.parts, done.seen)
     assert done.parts.stores_lost and told["operations"] > len(done.operations)
-    # Each queue has something, and an operation that another queue has is missed.
+    # Each queue has something, and what one has isn't what another one has.
     assert {call.queue for call in done.seen.calls} == {0, 1, 2}
-    with pytest.raises(Wrong, match="was acknowledged, and isn't in the history|and the history has fewer"):
+    with pytest.raises(Wrong):
         compare(done.parts, done.operations, done.seen, queue=1)
 
 
