@@ -18,6 +18,7 @@ from workers import end_of, working
 from job_host.catalogue.jobs import JobsRefused
 from job_host.protocol.client import Address, Client
 from job_host.protocol.seen import Seen, written
+from job_host.service.keepers.keeper import Fatal
 from job_host.service.problems import unavailable
 from job_host.service.server import Service
 
@@ -384,3 +385,26 @@ async def test_claims_end_with_the_service(tmp_path: Path, jobs: Path) -> None:
         assert not waiting.done()
     answer = await asyncio.wait_for(waiting, 5)
     assert (answer.status, answer.name) == (503, "Starting")
+
+
+BROKEN = '<next on="X" to="nowhere"/>'
+
+
+async def test_a_fault_in_one_queue_changes_no_other(tmp_path: Path, jobs: Path, caplog: pytest.LogCaptureFixture) -> None:
+    """Only batchctl knows this fault: it is asked of all queues before anything changes."""
+    made = queued_settings(tmp_path, jobs)
+    async with running(made) as service:
+        caller = QueueCaller(service.url)
+        right = (jobs / "dump.xml").read_text()
+        (jobs / "day.xml").write_text(jsl("day", 3))
+        (jobs / "dump.xml").write_text(right.replace("</step>", f"{BROKEN}</step>"))
+        await service.service._read_jobs_again()
+        assert "the jobs aren't read again" in caplog.text and "dump.xml" in caplog.text
+        assert (await caller.ask("GET", "/batch/jobs/day/versions")).told["version"] == 1
+    with pytest.raises(Fatal, match="dump.xml"):
+        async with running(made):
+            raise AssertionError
+    (jobs / "dump.xml").write_text(right)
+    async with running(made) as service:
+        told = (await QueueCaller(service.url).ask("GET", "/batch/jobs/day/versions")).told
+        assert [one["version"] for one in told["changes"]] == [2, 1]

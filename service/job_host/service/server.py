@@ -7,7 +7,7 @@ import gc
 import logging
 import signal
 import time
-from collections.abc import Awaitable, Callable, Sequence
+from collections.abc import Awaitable, Callable, Iterable, Sequence
 from typing import NamedTuple
 
 from aiohttp import web
@@ -28,7 +28,7 @@ from job_host.service.http.descriptors import fitted, raise_limit
 from job_host.service.http.dispatch import Dispatch
 from job_host.service.http.listening import GuardedSite, Listener
 from job_host.service.http.requests import Asked, Gate, Host, Places, Route, process_ended, refuse_others
-from job_host.service.keepers.keeper import Fatal
+from job_host.service.keepers.keeper import Fatal, check_catalogue
 from job_host.service.making import made_queues
 from job_host.service.metrics import Metrics
 from job_host.service.policies.leading import Outside, Policies
@@ -319,19 +319,26 @@ class Service:
         """Reads the folder of jobs again. If a file is at fault, all jobs stay as they are."""
         try:
             served = await asyncio.to_thread(read_jobs, self.settings)
+            await self._check_parts(served.values())
             await self.queues.read_folder(served)
             log.warning("has read the files of its jobs again")
         except JobsRefused as refused:
             for line in refused.lines:
                 log.error("the jobs stay as they are: %s", line)
-        except (Problem, NoVerdict, OSError) as fault:
+        except (Problem, Fatal, NoVerdict, OSError) as fault:
             log.error("the jobs aren't read again: %s", fault)
+
+    async def _check_parts(self, parts: Iterable[ServedJobs]) -> None:
+        """Raises Fatal if batchctl refuses the jobs of a queue: then those of the others stay as they are, too."""
+        for served in parts if not self.queues.are_plain else ():
+            await check_catalogue(self.settings.batchctl, served)
 
     async def keep(self) -> None:
         """Keeps the history until the keeper ends. Meanwhile what is over for long is purged, and policies are gone by.
 
         Raises Fatal.
         """
+        await self._check_parts([keeper.served for keeper in self.queues.keepers])
         loop = asyncio.get_running_loop()
         rounds = [one for part in self.parts for one in (part.retention.run(), part.policies.run())]
         beside = [loop.create_task(one) for one in rounds]
