@@ -12,7 +12,7 @@ from instances import Instance, running
 from policed import Ahead, hasten
 from queued import NIGHT, URGENT, QueueCaller, queued_settings, write_jobs
 from receivers import receiving, words
-from test_following import Stream, follow
+from test_lists import Stream, follow
 
 from job_host.service.policies.restarts import Restarts
 from job_host.service.policies.schedules import Schedules
