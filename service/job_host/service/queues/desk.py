@@ -15,6 +15,7 @@ from job_host.service.problems import Problem, unavailable
 from job_host.service.queues.queue import Queue
 from job_host.service.terms.calls import Call, Item, Kept
 from job_host.service.terms.claims import LOOK_SECONDS, MOST_WITHDRAWN, ClaimWithdrawn
+from job_host.service.terms.term import Term
 
 NOTHING = b'{"nothing":'
 NOTHING_THERE = b'{"nothing":true}'
@@ -30,10 +31,11 @@ class Claimed:
 
 @dataclass(eq=False)
 class Waiter:
-    """A claim that waits. While it is tried it is in nobody else's hand."""
+    """A claim that waits, within these terms of its queues. While it is tried it is in nobody else's hand."""
 
     call: Call
     queues: Sequence[Queue]
+    terms: Sequence[Term]
     is_tried: bool = False
     is_late: bool = False
     served: asyncio.Future[tuple[Queue, Item] | None] = field(
@@ -133,7 +135,7 @@ class ClaimsDesk:
     async def _wait(self, call: Call, queues: Sequence[Queue]) -> tuple[Queue, Item] | None:
         if self._end is not None:
             raise self._end
-        waiter = Waiter(call, queues)
+        waiter = Waiter(call, queues, [one.keeper.leading() for one in queues])
         self._waiting.append(waiter)
         self._wake.set()
         try:
@@ -236,11 +238,12 @@ class ClaimsDesk:
             waiter.served.set_result(None)
             return True
         try:
-            for queue in waiter.queues:
-                term = queue.keeper.leading()
+            for queue, term in zip(waiter.queues, waiter.terms, strict=True):
                 term.desk.note_asked()
                 if term.failure is not None:
                     raise term.failure
+                if queue.keeper.leading() is not term:
+                    raise unavailable("Starting", f"the queue {queue.name} begins again")
         except Exception as problem:
             waiter.end(problem)
             return True
