@@ -18,6 +18,7 @@ from workers import end_of, working
 from job_host.catalogue.jobs import JobsRefused
 from job_host.protocol.client import Address, Client
 from job_host.protocol.seen import Seen, written
+from job_host.service.keepers.keeper import Compaction
 from job_host.service.keepers.keeper import Fatal
 from job_host.service.problems import unavailable
 from job_host.service.server import Service
@@ -263,6 +264,30 @@ async def test_a_job_names_a_queue_of_the_service(tmp_path: Path, has_log: None)
         Service(queued_settings(tmp_path, jobs))
     told = 'expected a queue of this service, which are default, urgent, night (--queues), found "urgnet"'
     assert refused.value.lines == [f"{jobs}/alarm.settings.json: {told}"]
+
+
+async def test_a_queue_whose_calls_wait_holds_up_no_claim_of_another(service: Instance) -> None:
+    """As it is compacted, also by a claim on it alone."""
+    caller, night = QueueCaller(service.url), service.service.queues.named("night").keeper
+    await caller.start("dump")
+    assert night.engine is not None
+    async with night.engine.turn:
+        night.compaction = Compaction(0)
+        alone = asyncio.ensure_future(caller.claim_of("night"))
+        waiting = asyncio.ensure_future(caller.claim_of("night", "urgent", wait=20))
+        await asyncio.sleep(0.3)
+        assert not alone.done() and not waiting.done()
+        await caller.start("alarm")
+        assert (await asyncio.wait_for(waiting, 10)).told["jobName"] == "alarm"
+        await caller.start("alarm")
+        assert (await asyncio.wait_for(caller.claim_of("night", "urgent"), 10)).told["jobName"] == "alarm"
+        waiting = asyncio.ensure_future(caller.claim_of("night", "urgent", wait=20))
+        await asyncio.sleep(0.3)
+        assert not alone.done() and not waiting.done()
+        night.compaction = Compaction(0, is_over=True)
+    assert (await asyncio.wait_for(alone, 10)).told["jobName"] == "dump"
+    await caller.start("dump")
+    assert (await asyncio.wait_for(waiting, 10)).told["jobName"] == "dump"
 
 
 SLEEPS, ENDS = "#!/bin/sh\nsleep 1\n", "#!/bin/sh\n:\n"

@@ -129,6 +129,11 @@ class CoProcess(asyncio.SubprocessProtocol):
             self._go()
 
     @property
+    def is_held(self) -> bool:
+        """Whether another one is taking its place, so that lines wait."""
+        return self._waiting is not None
+
+    @property
     def silence(self) -> float:
         """For how many seconds it has written nothing though a line waits for its reply."""
         return time.monotonic() - self._heard_at if self._hearers else 0.0

@@ -1,12 +1,13 @@
 """Claims on several queues: a claim is given to the first of its queues that has something to do.
 
 One claim is made at a time, for those who wait in their order. A queue in which nothing was found isn't asked again until an
-operation may have made work there.
+operation may have made work there. One whose calls wait holds up no claim of another queue.
 """
 
 from __future__ import annotations
 
 import asyncio
+from collections import defaultdict
 from collections.abc import Sequence
 from contextlib import ExitStack
 from dataclasses import dataclass, field
@@ -55,7 +56,8 @@ class ClaimsDesk:
         self._waiting: list[Waiter] = []
         self._empty: set[int] = set()
         self._wake = asyncio.Event()
-        self._turn = asyncio.Lock()
+        # Of each queue one claim is made at a time: it may have no more busy work items than its bounds say.
+        self._turns: dict[int, asyncio.Lock] = defaultdict(asyncio.Lock)
         self._under_way: dict[tuple[str, str], asyncio.Task[Claimed]] = {}
         self._withdrawn: dict[tuple[str, str | None], None] = {}
         self._end: Problem | None = None
@@ -127,8 +129,7 @@ class ClaimsDesk:
         found = await self._wait(call, queues) if call.wait > 0 else None
         if found is None:
             await self._until_heard(call)
-            async with self._turn:
-                return await self._last(call, queues)
+            return await self._last(call, queues)
         queue, item = found
         return Claimed(queue, await item.done)
 
@@ -157,12 +158,12 @@ class ClaimsDesk:
             raise Problem("ClientGone", 408, "the client that waited is gone")
 
     async def _last(self, call: Call, queues: Sequence[Queue]) -> Claimed:
-        """Claims of each queue that may have more busy work items. Nothing is an answer, too."""
+        """Claims of each queue that isn't full, last of those whose calls wait. Nothing is an answer, too."""
         asked: tuple[Queue, Item] | None = None
-        for queue in [one for one in queues if not one.is_full]:
+        for queue in sorted(queues, key=lambda one: one.is_held):
             item = await self._begin(queue, call)
-            asked = (queue, item)
-            if not item.reply.startswith(NOTHING):
+            asked = asked if item is None else (queue, item)
+            if item is not None and not item.reply.startswith(NOTHING):
                 break
         if asked is not None:
             return Claimed(asked[0], await asked[1].done)
@@ -172,25 +173,32 @@ class ClaimsDesk:
         await term.confirm()
         return Claimed(queues[0], Kept(NOTHING_THERE, (), term.committed))
 
-    @staticmethod
-    async def _begin(queue: Queue, call: Call) -> Item:
-        """Claims of one queue. Its reply is there, and may not be kept yet."""
-        item = await queue.keeper.leading().begin(call)
-        await item.heard
+    async def _begin(self, queue: Queue, call: Call) -> Item | None:
+        """Claims of one queue, unless it is full. Its reply is there, and may not be kept yet."""
+        async with self._turns[queue.number]:
+            if queue.is_full:
+                return None
+            item = await queue.keeper.leading().begin(call)
+            await item.heard
         return item
 
     async def _try(self, waiter: Waiter) -> tuple[Queue, Item] | None:
         """Claims of the first of its queues that has something to do."""
         for queue in waiter.queues:
-            if queue.number in self._empty or queue.is_full:
+            if not self._may_have(queue):
                 continue
             # An operation that comes meanwhile takes it out again.
             self._empty.add(queue.number)
             item = await self._begin(queue, waiter.call)
-            if not item.reply.startswith(NOTHING):
+            if item is None or not item.reply.startswith(NOTHING):
                 self._empty.discard(queue.number)
+            if item is not None and not item.reply.startswith(NOTHING):
                 return queue, item
         return None
+
+    def _may_have(self, queue: Queue) -> bool:
+        """Whether a claim may find something now. Whether a queue is held is looked at again soon."""
+        return queue.number not in self._empty and not queue.is_full and not queue.is_held
 
     # ---- Who waits
 
@@ -207,26 +215,25 @@ class ClaimsDesk:
                     await self._serve_one(waiter)
 
     def _may_find(self, waiter: Waiter) -> bool:
-        return any(one.number not in self._empty and not one.is_full for one in waiter.queues)
+        return any(map(self._may_have, waiter.queues))
 
     async def _serve_one(self, waiter: Waiter) -> None:
-        async with self._turn:
-            if waiter not in self._waiting or waiter.served.done():
-                return
-            waiter.is_tried = True
-            try:
-                found = await self._try(waiter)
-            except Exception as problem:
-                waiter.end(problem)
-                return
-            finally:
-                waiter.is_tried = False
-            if found is not None or waiter.is_late:
-                waiter.served.set_result(found)
-            elif self.is_withdrawn(waiter.call):
-                waiter.end(ClaimWithdrawn())
-            elif self._end is not None:
-                waiter.end(self._end)
+        if waiter not in self._waiting or waiter.served.done():
+            return
+        waiter.is_tried = True
+        try:
+            found = await self._try(waiter)
+        except Exception as problem:
+            waiter.end(problem)
+            return
+        finally:
+            waiter.is_tried = False
+        if found is not None or waiter.is_late:
+            waiter.served.set_result(found)
+        elif self.is_withdrawn(waiter.call):
+            waiter.end(ClaimWithdrawn())
+        elif self._end is not None:
+            waiter.end(self._end)
 
     def _end_gone(self, waiter: Waiter) -> bool:
         """Ends a claim that waits if its client is gone, or a queue of it isn't led here any more."""

@@ -30,6 +30,14 @@ class Queue:
         most, engine = self.bounds.most_busy, self.keeper.engine
         return most is not None and engine is not None and len(engine.held) >= most
 
+    @property
+    def is_held(self) -> bool:
+        """Whether all its calls wait, as its log is compacted, or its catalogue grows."""
+        engine, compaction = self.keeper.engine, self.keeper.compaction
+        if compaction is not None and compaction.calls_wait and not compaction.is_over:
+            return True
+        return engine is not None and engine.process.is_held
+
     def is_for(self, labels: frozenset[str]) -> bool:
         """Whether a worker with these labels gets something of it."""
         return labels.issuperset(self.bounds.labels)
