@@ -1,9 +1,10 @@
 #!/usr/bin/python3 -S
 """A stand-in for `batchctl script --log FILE --tags --compact`, for tests of what the service makes of a log with a base.
 
-Its state is the rows of a base alone. It knows steps one after the other, partitions, chunks, and decisions that lead nowhere
-else; parallel parts and transitions it doesn't know. The checks of its records are zeros. A file FILE.fault lets a compaction
-fail, or last: it has the word `refuse`, `forget`, `die-before`, `die-after` or `wait`, and seconds or none.
+Its `check` takes each catalogue. Its state is the rows of a base alone. It knows steps one after the other, partitions, chunks,
+and decisions that lead nowhere else; parallel parts and transitions it doesn't know. The checks of its records are zeros. A
+file FILE.fault lets a compaction fail, or last: it has the word `refuse`, `forget`, `die-before`, `die-after` or `wait`, and
+seconds or none.
 """
 
 from __future__ import annotations
@@ -397,6 +398,9 @@ def main() -> int:
         print(USAGE)
         return 0
     catalogue, repository, log = sys.stdin.buffer.readline().rstrip(b"\n"), Repository(), None
+    if words == ["check"]:
+        out.write(written({"jobs": len(json.loads(catalogue)["jobs"])}) + b"\n")
+        return 0
     if "--log" in words:
         try:
             log = Log(Path(words[words.index("--log") + 1]))

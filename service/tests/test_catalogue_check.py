@@ -12,50 +12,32 @@ from pathlib import Path
 from typing import Any
 
 import pytest
-from catalogue_samples import BATCHCTL, catalogues_of_the_repository, checked, one_job, step, told
+from catalogue_samples import BATCHCTL, checked, one_job, step, told
 from random_catalogues import random_catalogue
+from told_faults import told_wrongly
 
-from job_host.catalogue.check import Verdict, ask, check, found_faults, in_order_of
+from job_host.catalogue.check import Checked, check, first_fault
 from job_host.catalogue.faults import NoVerdict
 from job_host.catalogue.file import CatalogueFile, read_json
+from job_host.catalogue.finder import MORE, MOST_OF_A_FILE, MOST_OF_A_JOB
 from job_host.catalogue.jobs import read_file
-from job_host.catalogue.text import MOST_LINE_BYTES, Source, one_line
+from job_host.catalogue.paths import spot_of, steps_of
+from job_host.catalogue.text import MOST_LINE_BYTES, Reader, Source, one_line
+from job_host.catalogue.verdicts import ask
 from job_host.catalogue.warnings import covers
 
-RANDOM = int(os.environ.get("JOBHOST_RANDOM_CATALOGUES", "400"))
+RANDOM = int(os.environ.get("JOBHOST_RANDOM_CATALOGUES", "100"))
 SEED = int(os.environ.get("JOBHOST_SEED", "11"))
-NAMES = {"NotJson", "NotACatalogue", "BadElement", "TextTooLong", "Empty", "TooDeep", "TooMany", "DuplicateId", "NoSuchTarget"}
-NAMES |= {"Loop", "RestartNotJobLevel"}
 
 
-def first_fault(data: bytes) -> tuple[Any, Any]:
-    """The first fault as it was found, and as batchctl says."""
-    file = read_json("file", data)
-    faults = found_faults(file)
-    return (faults[0].answer if faults else None), ask(BATCHCTL, file.line or b"").answer
-
-
-def test_each_catalogue_of_the_repository_has_batchctls_verdict() -> None:
-    catalogues = catalogues_of_the_repository()
-    named = Counter[str]()
-    for data in catalogues:
-        found, answer = first_fault(data)
-        assert found == answer, data[:400]
-        named["accepted" if answer is None else answer["fault"]] += 1
-    assert set(named) == NAMES | {"accepted"}
-    assert named["accepted"] > 300
-
-
-def test_random_catalogues_have_batchctls_verdict() -> None:
+def test_random_catalogues_are_told_as_batchctl_says() -> None:
     named = Counter[str]()
     for number in range(RANDOM):
         made = random_catalogue(random.Random(f"{SEED}-{number}"))
-        found, answer = first_fault(made.data)
-        assert found == answer, (number, made)
-        line = one_line(made.data)
-        assert b"\n" not in line and one_line(line) == line
-        named["accepted" if answer is None else answer["fault"]] += 1
-    assert set(named) == NAMES | {"accepted"}
+        name, wrong = told_wrongly(BATCHCTL, made.data)
+        assert not wrong, (number, wrong, made)
+        named[name] += 1
+    assert len(named) > 6 and named["accepted"]
 
 
 def test_a_line_at_its_bound_and_one_above_it(tmp_path: Path) -> None:
@@ -126,6 +108,11 @@ FAULTS = [
     ),
     ('{▸"Jobs": []}', 'NotACatalogue: expected "jobs" alone, found "Jobs"; did you mean `jobs`?'),
     ('{"jobs": ▸{}}', 'NotACatalogue: expected a list as "jobs", found `{}`'),
+    (
+        job_of('{"kind": "split", "id": "p", "flows": [{▸"kinx": "flow", "id": "f", "elements": [' + S + "}]}]}"),
+        'BadElement in job "a", element "f" (number 1): expected "kind", "id" or "elements" in the flow of a split, '
+        'found "kinx"; did you mean `kind`?',
+    ),
     ("▸[]", 'NotACatalogue: expected an object with the member "jobs", found `[]`'),
     ('{"jobs": [▸7]}', "BadElement in job number 0: expected an object, the job, found `7`"),
     (job_of("\n\t" + S + "▸,}"), "NotJson: expected no comma in front of `}`, found `,`"),
@@ -195,7 +182,7 @@ def test_depth_and_numbers_of_elements_and_jobs(tmp_path: Path) -> None:
 def test_each_fault_is_told_and_batchctls_first(tmp_path: Path) -> None:
     text = one_job(step("s", next="u"), step("t", next="s", partitions=0), {"kind": "step", "id": "u", "batchlet": {"ref": ""}})
     found = checked(tmp_path, text)
-    assert found.verdict == Verdict({"element": 1, "fault": "BadElement", "job": 0})
+    assert found.verdict is not None and found.verdict.answer == {"element": 1, "fault": "BadElement", "job": 0}
     assert [fault.name for fault in found.faults] == ["BadElement", "Empty"]
 
 
@@ -205,14 +192,104 @@ def test_a_fault_of_a_later_job_is_told_too(tmp_path: Path) -> None:
     assert [(fault.name, fault.owner.job) for fault in found.faults] == [("Loop", 0), ("Empty", 1)]
 
 
-def test_batchctls_verdict_stands_whatever_was_found() -> None:
-    """A fault that was found and that batchctl doesn't name is none; one that it names is told at its element."""
+def names_of(found: Checked) -> list[tuple[str, int | None]]:
+    """The faults of the first job, each with its element."""
+    return [(fault.name, fault.owner.element) for fault in found.faults]
+
+
+X, Y = step("x"), step("y")
+# The elements of a job, and which of them are told, in batchctl's order.
+REPAIRED: list[tuple[list[Any], list[tuple[str, int | None]]]] = [
+    # An object is told once, and those inside it by themselves.
+    ([step("s", partitions=0, foo=1, batchlet={"reff": "r"})], [("BadElement", 0), ("BadElement", 0)]),
+    ([{"kind": "step", "id": "s", "batchlt": {"ref": "r"}}, step("t", next="u")], [("BadElement", 0), ("NoSuchTarget", 1)]),
+    # An id that can't be read may be the one that is meant.
+    ([step("s", next="t"), {"kind": "step", "idd": "t", "batchlet": {"ref": "r"}}], [("BadElement", 1)]),
+    ([step("s", next="t"), 7], [("BadElement", 1)]),
+    ([step("s", next="t"), step("")], [("Empty", 1), ("NoSuchTarget", 0)]),
+    # The list of a flow is another one.
+    (
+        [step("s", next="t"), {"kind": "flow", "id": "f", "elements": [{"kind": "step", "batchlet": {"ref": "r"}}]}],
+        [("BadElement", 2), ("NoSuchTarget", 0)],
+    ),
+    # A second id has another name, by which nothing is looked for.
+    ([step("s", next="t"), {"kind": "flow", "id": "f", "elements": [step("t")]}, step("t")], [("DuplicateId", 3)]),
+    ([step("s", next="u"), step("t"), step("t")], [("DuplicateId", 2), ("NoSuchTarget", 0)]),
+    # Kinds that can't be read, in each list; what stands behind them keeps its number.
+    (
+        [
+            {"kind": "split", "id": "p", "flows": [{"kind": "flw", "id": "f", "elements": [X, Y]}]},
+            {"kind": "stp", "id": "s", "next": "u"},
+            step("t", transitions=[{"kind": "stp", "on": "*"}, {"kind": "next", "on": "*", "to": "u"}]),
+        ],
+        [("BadElement", 1), ("BadElement", 2), ("BadElement", 3), ("NoSuchTarget", 3)],
+    ),
+    ([step("s"), {"kind": "stp", "id": "s"}, step("t", next="u")], [("BadElement", 1), ("NoSuchTarget", 2)]),
+    # A loop keeps batchctl from going on in its job.
+    ([step("s", next="s", transitions=[{"kind": "stop", "on": "*", "restart": "u"}])], [("Loop", 0)]),
+    ([step("s", next="é" * 129), {"kind": "split", "id": "p", "flows": []}], [("TextTooLong", 0), ("Empty", 1)]),
+]
+
+
+@pytest.mark.parametrize(("elements", "told_of"), REPAIRED)
+def test_what_a_repair_makes_is_never_told(tmp_path: Path, elements: list[Any], told_of: list[tuple[str, int | None]]) -> None:
+    found = checked(tmp_path, one_job(*elements))
+    assert names_of(found) == told_of
+    assert MORE not in [note.told for note in found.warnings]
+
+
+def test_of_many_faults_the_first_ones_are_told(tmp_path: Path) -> None:
+    many = [step(f"s{number}", next="nowhere") for number in range(MOST_OF_A_JOB + 1)]
+    found = checked(tmp_path, one_job(*many))
+    assert len(found.faults) == MOST_OF_A_JOB
+    assert [(note.told, note.owner.job) for note in found.warnings if note.told == MORE] == [(MORE, 0)]
+    assert len(checked(tmp_path, one_job(*many[1:])).faults) == MOST_OF_A_JOB
+    # A job that is left out may be at fault beside another one, which isn't told, and batchctl goes on behind it.
+    jobs = [{"id": name, "elements": elements} for name, elements in (("a", [X]), ("a", many), ("b", [step("s", next="s")]))]
+    found = checked(tmp_path, json.dumps({"jobs": jobs}))
+    assert Counter((fault.name, fault.owner.job) for fault in found.faults) == {
+        ("NoSuchTarget", 1): MOST_OF_A_JOB,
+        ("Loop", 2): 1,
+    }
+    assert [note.owner.job for note in found.warnings if note.told == MORE] == [1]
+    jobs = [{"id": f"j{number}", "elements": [step("s", next="s")]} for number in range(MOST_OF_A_FILE + 1)]
+    found = checked(tmp_path, json.dumps({"jobs": jobs}))
+    assert [fault.owner.job for fault in found.faults] == list(range(MOST_OF_A_FILE))
+    assert [(note.told, note.owner.job) for note in found.warnings if note.told == MORE] == [(MORE, None)]
+
+
+def test_a_way_to_a_member_is_read() -> None:
+    way = 'jobs[2].elements[10]["a b"]["\\"\\u0000]"].start-limit'
+    assert steps_of(way) == ("jobs", 2, "elements", 10, "a b", '"\0]', "start-limit")
+    assert (steps_of(""), steps_of('[""]')) == ((), ("",))
+    for wrong in ("jobs[", "jobs[x]", "jobs..id", "a b", '["a]'):
+        with pytest.raises(ValueError, match="is no way to a member"):
+            steps_of(wrong)
+
+
+def test_a_way_is_followed_to_what_the_file_has() -> None:
+    text = one_job(step("s"), {"kind": "flow", "id": "f", "elements": [step("t")]})
+    root = Reader(text).read()
+
+    def found(way: str) -> tuple[str, str, bool] | None:
+        spot = spot_of(root, steps_of(way))
+        return None if spot is None else (spot.form, spot.list_kind, spot.member is not None)
+
+    assert found("") == ("catalogue", "", False)
+    assert found("jobs[0]") == ("job", "job", False)
+    assert found("jobs[0].restartable") == ("job", "job", False)
+    assert found("jobs[0].elements[1].elements[0].batchlet.ref") == ("artifact", "", True)
+    assert found("jobs[0].elements[1].id") == ("flow", "element", True)
+    for way in ("jobs[1]", "jobs[0].elements[2].id", "jobs[0].id.id", "jobs[0].none.none", "jobs.id", "none[0]"):
+        assert found(way) is None
+
+
+def test_a_fault_without_words_is_told_at_its_element() -> None:
     file = read_json("file", one_job(step("s"), step("t")).encode())
-    assert in_order_of(Verdict(None), found_faults(read_json("file", b"{}")), file) == []
     answer = {"element": 1, "fault": "BadElement", "job": 0}
-    fault = in_order_of(Verdict(answer), [], file)[0]
-    assert (fault.answer, file.source.text[fault.at :][:27]) == (answer, '{"kind": "step", "id": "t",')
-    assert in_order_of(Verdict({"fault": "NotJson"}), [], CatalogueFile(Source("f", ""), b""))[0].at == 0
+    fault = first_fault(file, answer, None)
+    assert (fault.owner.element, file.source.text[fault.at :][:27]) == (1, '{"kind": "step", "id": "t",')
+    assert first_fault(CatalogueFile(Source("f", ""), b""), {"fault": "NotJson"}, None).at == 0
 
 
 D = '{"kind": "decision", "id": "d", "ref": "r", "transitions": [{"kind": "next", "on": "S", "to": "s"}'

@@ -10,7 +10,7 @@ from catalogue_samples import BATCHCTL, catalogues_of_the_repository
 from jsonschema import Draft202012Validator  # type: ignore[import]
 from random_catalogues import random_catalogue
 
-from job_host.catalogue.check import ask
+from job_host.catalogue.verdicts import ask
 from job_host.catalogue.schema import schema_of_catalogues
 from job_host.catalogue.text import one_line
 

@@ -5,8 +5,10 @@ from __future__ import annotations
 import errno
 import json
 import os
-from collections.abc import Callable
+import subprocess
+from collections.abc import Callable, Sequence
 from pathlib import Path
+from typing import Any
 
 import pytest
 from instances import Caller, Instance, running
@@ -122,6 +124,21 @@ def test_a_check_of_a_folder_tells_all(jobs: Path, capfd: pytest.CaptureFixture[
         (jobs / name).unlink()
     assert main(["catalogue", "check", "--jobs", str(jobs)]) == 0
     assert main(["catalogue", "check", "--jobs", str(jobs / "none")]) == 2
+
+
+def test_batchctl_is_asked_once_of_a_good_folder(jobs: Path, monkeypatch: pytest.MonkeyPatch) -> None:
+    (jobs / "a.xml").write_text(JSL % ("first", STEP))
+    (jobs / "b.json").write_text(json.dumps({"id": "second", "elements": [ONLY]}))
+    asked = list[Sequence[str]]()
+    run = subprocess.run
+
+    def count(words: Sequence[str], **more: Any) -> Any:
+        asked.append(words[1:])
+        return run(words, **more)
+
+    monkeypatch.setattr(subprocess, "run", count)
+    assert main(["catalogue", "check", "--jobs", str(jobs)]) == 0
+    assert asked == [["check"]]
 
 
 ATTACKS = [

@@ -91,7 +91,7 @@ def test_the_settings_of_a_job_name_its_queue(tmp_path: Path) -> None:
     policies = (found["night"].for_workers or {})["dump"].policies
     assert (policies.queue, policies.one_at_a_time) == ("night", True)
     # A fault that batchctl names by a job's number is told of the job with this number in its queue.
-    assert "dump.xml" in found["night"].told_fault(b'{"fault":"NoSuchTarget","job":0,"element":0}')
+    assert "dump.xml" in found["night"].told_fault(b'{"fault":"NoSuchTarget","job":0,"element":0}', ["no-batchctl"])
     with pytest.raises(JobsRefused, match='which are default, idle .--queues., found "night"'):
         read_folder(jobs, ()).served_by_queues(["default", "idle"])
 

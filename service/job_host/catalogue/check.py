@@ -1,46 +1,22 @@
-"""Checks a catalogue: batchctl gives the verdict on its line, and the file is searched for the place and the words."""
+"""Checks a catalogue: batchctl gives the verdict on its line, and names what is at fault. Place and words are of the file."""
 
 from __future__ import annotations
 
-import json
-import subprocess
 from collections.abc import Iterator, Sequence
 from dataclasses import dataclass
 from pathlib import Path
-from typing import Any
 
-from job_host.catalogue.faults import BAD_ELEMENT, NOBODY, Fault, Note, NoVerdict, Owner
+from job_host.catalogue.faults import Fault, Note
 from job_host.catalogue.file import CatalogueFile
-from job_host.catalogue.members import MemberFinder
-from job_host.catalogue.structure import StructureFinder, faults_of_catalogue
-from job_host.catalogue.text import Source, Value
+from job_host.catalogue.finder import FaultFinder
+from job_host.catalogue.paths import spot_of, steps_of
+from job_host.catalogue.text import Value
 from job_host.catalogue.tree import Job, read_job
+from job_host.catalogue.verdicts import Answer, Verdict, ask
 from job_host.catalogue.warnings import Artifacts, Warner, jobs_alike, repeated
+from job_host.catalogue.words import Words
 
-CATALOGUE_REFUSED = 3
-
-Answer = dict[str, Any]
-
-
-@dataclass(frozen=True)
-class Verdict:
-    """The line with which batchctl refuses a catalogue; none if it takes it."""
-
-    answer: Answer | None
-
-
-def ask(batchctl: Sequence[str], line: bytes) -> Verdict:
-    """Hands batchctl a catalogue's line, and no other. Raises NoVerdict."""
-    try:
-        done = subprocess.run([*batchctl, "script"], input=line + b"\n", capture_output=True, check=False)
-    except OSError as fault:
-        raise NoVerdict(f"there is no program {batchctl[0]}: {fault}") from fault
-    if done.returncode == 0 and not done.stdout:
-        return Verdict(None)
-    if done.returncode == CATALOGUE_REFUSED:
-        return Verdict(json.loads(done.stdout))
-    told = (done.stderr or done.stdout).decode("utf-8", "replace").strip()
-    raise NoVerdict(f"{batchctl[0]} script ended with status {done.returncode}: {told[:400]}")
+NOTHING = Value(0, 0, None)
 
 
 @dataclass(frozen=True)
@@ -62,49 +38,25 @@ def jobs_in(root: Value) -> list[Job]:
     return [read_job(number, value) for number, value in enumerate(jobs.value.items)] if jobs is not None else []
 
 
-def find_faults(source: Source, root: Value) -> Iterator[Fault]:
-    """The faults of a catalogue, those of a job in the order in which batchctl looks for them."""
-    finder = MemberFinder(source)
-    jobs, faults = finder.jobs(root)
-    yield from faults
-    earlier = dict[str, Job]()
-    for number, value in enumerate(jobs):
-        job = read_job(number, value)
-        yield from finder.job(job)
-        yield from StructureFinder(source, job).faults()
-        yield from faults_of_catalogue(source, job, earlier)
-
-
-def found_faults(file: CatalogueFile) -> list[Fault]:
-    """The faults of a file as they were found, without asking batchctl."""
-    if file.faults or file.root is None:
-        return file.faults
-    return list(find_faults(file.source, file.root))
-
-
-def in_order_of(verdict: Verdict, found: list[Fault], file: CatalogueFile) -> list[Fault]:
-    """The faults, first the one that batchctl names. If it names none, there is none."""
+def faults_in(file: CatalogueFile, verdict: Verdict, batchctl: Sequence[str]) -> tuple[list[Fault], list[Note]]:
+    """The faults of a file, first the one that batchctl names, and where there may be more. Raises NoVerdict."""
     if verdict.answer is None:
-        return []
-    named = [fault for fault in found if fault.answer == verdict.answer]
-    others = [fault for fault in found if fault.answer != verdict.answer]
-    return [*(named or [unexplained(verdict.answer, file)]), *others]
+        return [], []
+    if file.root is not None and not file.faults:
+        finder = FaultFinder(file.source, file.root, batchctl)
+        finder.find(verdict)
+        return finder.faults, finder.notes
+    named = [fault for fault in file.faults if fault.name == verdict.answer["fault"]]
+    others = [fault for fault in file.faults if fault.name != verdict.answer["fault"]]
+    return [*(named or [first_fault(file, verdict.answer, None)]), *others], []
 
 
-def unexplained(answer: Answer, file: CatalogueFile) -> Fault:
-    """A fault that was not found in the file: it is told at its job or element."""
-    at, owner = place_of(answer, file)
-    expected = "what docs/CATALOGUE.md says" if answer["fault"] == BAD_ELEMENT else "no such fault"
-    return Fault(answer["fault"], at, owner, expected, json.dumps(answer, separators=(",", ":")))
-
-
-def place_of(answer: Answer, file: CatalogueFile) -> tuple[int, Owner]:
-    jobs = jobs_in(file.root) if file.root is not None else []
-    if answer.get("job") is None or answer["job"] >= len(jobs):
-        return 0, NOBODY
-    job = jobs[answer["job"]]
-    element = next((element for element in job.elements if element.number == answer.get("element")), None)
-    return (element.value if element is not None else job.value).at, job.owner(element)
+def first_fault(file: CatalogueFile, answer: Answer, member: str | None) -> Fault:
+    """The fault that batchctl names of a file as it is."""
+    words = Words(file.source, file.root or NOTHING)
+    spot = spot_of(words.root, steps_of(member)) if member is not None else None
+    fault = words.fault(answer["fault"], spot) if spot is not None else None
+    return fault or words.unexplained(answer)
 
 
 def warn(file: CatalogueFile, folder: Path | None, faults: list[Fault]) -> Iterator[Note]:
@@ -123,11 +75,11 @@ def warn(file: CatalogueFile, folder: Path | None, faults: list[Fault]) -> Itera
             yield from known.warn(artifact.at, artifact.owner, artifact.name)
 
 
-def check(file: CatalogueFile, batchctl: Sequence[str], folder: Path | None = None) -> Checked:
-    """Raises NoVerdict."""
+def check(file: CatalogueFile, batchctl: Sequence[str], folder: Path | None = None, verdict: Verdict | None = None) -> Checked:
+    """The check of a file, by batchctl's verdict if it is known already. Raises NoVerdict."""
     if file.line is None:
         return Checked(file, None, file.faults, [])
-    verdict = ask(batchctl, file.line)
-    faults = in_order_of(verdict, found_faults(file), file)
-    warnings = sorted(warn(file, folder, faults), key=lambda note: note.at)
+    verdict = verdict or ask(batchctl, file.line)
+    faults, notes = faults_in(file, verdict, batchctl)
+    warnings = sorted([*warn(file, folder, faults), *notes], key=lambda note: note.at)
     return Checked(file, verdict, faults, warnings)

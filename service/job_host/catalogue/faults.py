@@ -3,7 +3,6 @@
 from __future__ import annotations
 
 from dataclasses import dataclass
-from typing import Any
 
 BAD_ELEMENT = "BadElement"
 NOT_JSON = "NotJson"
@@ -33,15 +32,6 @@ class Fault:
     expected: str
     found: str
     likely: str = ""
-
-    @property
-    def answer(self) -> dict[str, Any]:
-        """The line with which batchctl refuses a catalogue that has this fault first."""
-        if self.name in (NOT_JSON, NOT_A_CATALOGUE):
-            return {"fault": self.name}
-        if self.name == BAD_ELEMENT:
-            return {"element": self.owner.element, "fault": self.name, "job": self.owner.job}
-        return {"fault": self.name, "job": self.owner.job}
 
     @property
     def members(self) -> dict[str, str]:

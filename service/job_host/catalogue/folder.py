@@ -17,17 +17,19 @@ from collections.abc import Collection, Iterator, Sequence
 from dataclasses import dataclass, field, replace
 from pathlib import Path
 
-from job_host.catalogue.check import found_faults, jobs_in, unexplained
-from job_host.catalogue.faults import Fault, Note
+from job_host.catalogue.check import first_fault, jobs_in
+from job_host.catalogue.faults import NOT_A_CATALOGUE, Fault, Note, NoVerdict
 from job_host.catalogue.file import CatalogueFile, catalogue_of, read_json, translated
+from job_host.catalogue.forms import MOST_JOBS
 from job_host.catalogue.jobs import ForWorkers, JobFile, JobsRefused, ServedJobs, SettingsFile, as_it_is
 from job_host.catalogue.jsl_steps import StepsTranslator
-from job_host.catalogue.members import MemberFinder
+from job_host.catalogue.paths import spot_of
 from job_host.catalogue.queues import DEFAULT_QUEUE
 from job_host.catalogue.settings import SUFFIX, SettingsFinder, job_file_of, settings_of
-from job_host.catalogue.structure import MOST_JOBS
-from job_host.catalogue.text import MOST_LINE_BYTES, Members, plain
+from job_host.catalogue.text import MOST_LINE_BYTES, Members, Source, Value, plain
 from job_host.catalogue.tree import Job, shown
+from job_host.catalogue.verdicts import Answer, Verdict, ask
+from job_host.catalogue.words import Words
 from job_host.protocol.lines import compact
 
 JSL_SUFFIX, JSON_SUFFIX = ".xml", ".json"
@@ -173,14 +175,14 @@ class JobFolder:
             raise JobsRefused(self.refused)
         return {queue: self.part(queue).served() for queue in known}
 
-    def told_fault(self, answer: bytes) -> str:
+    def told_fault(self, answer: bytes, batchctl: Sequence[str]) -> str:
         """A fault of the whole catalogue, as batchctl names it, at its place in the file of its job."""
         fault = json.loads(answer)
         number = fault.get("job")
         for file in self.files if isinstance(number, int) else []:
             count = len(jobs_of_file(file))
             if number < count:
-                return told_at(file, fault_in(file, {**fault, "job": number}))
+                return told_at(file, fault_in(file, {**fault, "job": number}, batchctl))
             number -= count
         return as_it_is(answer)
 
@@ -189,10 +191,13 @@ def jobs_of_file(file: CatalogueFile) -> list[Job]:
     return jobs_in(file.root) if file.root is not None else []
 
 
-def fault_in(file: CatalogueFile, answer: dict[str, object]) -> Fault:
-    """A fault of one file, with its jobs numbered in that file."""
-    found = [fault for fault in found_faults(file) if fault.answer == answer]
-    return found[0] if found else unexplained(answer, file)
+def fault_in(file: CatalogueFile, answer: Answer, batchctl: Sequence[str]) -> Fault:
+    """A fault of one file, with its jobs numbered in that file. batchctl is asked of it alone, for the place."""
+    try:
+        verdict = ask(batchctl, file.line or b"")
+    except NoVerdict:
+        verdict = Verdict(None)
+    return first_fault(file, answer, verdict.member if verdict.answer == answer else None)
 
 
 def unread(path: Path, fault: OSError | Unreadable) -> str:
@@ -284,8 +289,18 @@ def read_json_file(name: str, data: bytes) -> CatalogueFile:
         file.root = catalogue_of([file.root])
         file.line = compact(plain(file.root))
     if file.root is not None:
-        file.faults += MemberFinder(file.source).jobs(file.root)[1]
+        file.faults += faults_beside_others(file.source, file.root)
     return file
+
+
+def faults_beside_others(source: Source, root: Value) -> list[Fault]:
+    """What keeps the jobs of a file from standing beside those of other files: it is no object with their list alone."""
+    others = sorted(name for name in root.members if name != "jobs")
+    if not others and "jobs" in root.members and isinstance(root.members["jobs"].value.held, list):
+        return []
+    spot = spot_of(root, tuple(others[:1] or ["jobs"]) if isinstance(root.held, Members) else ())
+    fault = Words(source, root).fault(NOT_A_CATALOGUE, spot) if spot is not None else None
+    return [fault] if fault is not None else []
 
 
 def read_folder(folder: Path, allowed: Collection[str]) -> JobFolder:

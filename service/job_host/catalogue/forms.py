@@ -1,6 +1,6 @@
-"""The members of each object of a catalogue, in the words of docs/CATALOGUE.md.
+"""The members of each object of a catalogue, and its bounds, in the words of docs/CATALOGUE.md.
 
-`batchctl` decides whether an object is as it must be. The table says what to expect in its place.
+`batchctl` decides whether a catalogue is as it must be. The table says what to expect in the place of a fault.
 """
 
 from __future__ import annotations
@@ -10,10 +10,14 @@ from dataclasses import dataclass
 from difflib import get_close_matches
 from enum import Enum
 
-from job_host.catalogue.text import WHOLE, Members, Value
+from job_host.catalogue.text import WHOLE, Value
 
 MOST_COUNT = 2**32 - 1
 MOST_PARTITIONS = 64
+MOST_TEXT_BYTES = 256
+MOST_DEPTH = 16
+MOST_ELEMENTS = 1_000
+MOST_JOBS = 256
 
 
 class Kind(Enum):
@@ -82,6 +86,9 @@ FORMS: dict[str, Forms] = {
     "fail": {"kind": TEXT, "on": TEXT, "exit-status": TEXT_OR_NONE},
     "stop": {"kind": TEXT, "on": TEXT, "exit-status": TEXT_OR_NONE, "restart": TEXT_OR_NONE},
 }
+# The whole value, which holds the jobs.
+CATALOGUE, JOB = "catalogue", "job"
+JOBS: Forms = {"jobs": Form(Kind.LIST, inside=JOB)}
 TASKS = ("batchlet", "chunk")
 # The kinds that an item of a list may have.
 KINDS = {
@@ -91,13 +98,9 @@ KINDS = {
 }
 
 
-def is_of(value: Value, form: Form) -> bool:
-    """Whether a value is what the form says, its bounds included."""
-    held = value.held
-    if form.kind is Kind.NUMBER:
-        return isinstance(held, int) and not isinstance(held, bool) and form.least <= held <= form.most
-    types = {Kind.TEXT: str, Kind.TRUTH: bool, Kind.LIST: list, Kind.OBJECT: Members}
-    return isinstance(held, types[form.kind])
+def members_of(form: str) -> Forms:
+    """The members of an object; of one whose kind can't be read none."""
+    return JOBS if form == CATALOGUE else FORMS.get(form, {})
 
 
 def likely(word: str, words: Iterable[str]) -> str:

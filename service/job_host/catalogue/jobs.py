@@ -37,7 +37,7 @@ class JobsRefused(Exception):
         self.lines = lines
 
 
-def as_it_is(answer: bytes) -> str:
+def as_it_is(answer: bytes, batchctl: Sequence[str] = ()) -> str:
     return answer.decode("utf-8", "replace")
 
 
@@ -61,14 +61,14 @@ class JobFile:
 
 @dataclass(frozen=True)
 class ServedJobs:
-    """The jobs of a service: their catalogue as one line, and how a fault of it is told, by batchctl's answer.
+    """The jobs of a service: their catalogue as one line, and how a fault of it is told, by batchctl's answer and its program.
 
     `for_workers` and `files` have those of each job of a folder, by its id. For a catalogue's file they are none: it has no
     place for what is for workers, and its jobs have no versions.
     """
 
     line: bytes
-    told_fault: Callable[[bytes], str] = as_it_is
+    told_fault: Callable[[bytes, Sequence[str]], str] = as_it_is
     for_workers: Mapping[str, ForWorkers] | None = None
     files: Mapping[str, JobFile] | None = None
 

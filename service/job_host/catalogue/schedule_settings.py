@@ -7,7 +7,7 @@ from zoneinfo import ZoneInfo
 from job_host.catalogue.cron import Cron, NotCron, read_cron
 from job_host.catalogue.schedules import CATCH_UP, SKIP, Schedule
 from job_host.catalogue.settings_reader import SettingsReader
-from job_host.catalogue.structure import MOST_TEXT_BYTES
+from job_host.catalogue.forms import MOST_TEXT_BYTES
 from job_host.catalogue.text import Members, Value
 from job_host.catalogue.tree import shown
 

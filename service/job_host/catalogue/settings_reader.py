@@ -6,8 +6,7 @@ from collections.abc import Sequence
 
 from job_host.catalogue.durations import seconds_of
 from job_host.catalogue.faults import Fault, Note, Owner
-from job_host.catalogue.forms import MOST_COUNT, likely, quoted
-from job_host.catalogue.structure import MOST_TEXT_BYTES
+from job_host.catalogue.forms import MOST_COUNT, MOST_TEXT_BYTES, likely, quoted
 from job_host.catalogue.text import Members, Source, Value
 from job_host.catalogue.tree import Job, shown
 

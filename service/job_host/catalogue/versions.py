@@ -10,9 +10,9 @@ from job_host.catalogue import check, growth
 from job_host.catalogue.faults import NOBODY, Fault
 from job_host.catalogue.file import CatalogueFile
 from job_host.catalogue.folder import UNRESERVED, faults_of, is_reserved, jobs_of_file, read_job_file, told_at
+from job_host.catalogue.forms import MOST_JOBS, MOST_TEXT_BYTES
 from job_host.catalogue.jobs import ForWorkers, JobFile, JobsRefused
 from job_host.catalogue.names import id_of
-from job_host.catalogue.structure import MOST_JOBS, MOST_TEXT_BYTES
 from job_host.catalogue.text import plain
 from job_host.catalogue.tree import shown
 from job_host.protocol.lines import compact

@@ -12,7 +12,7 @@ from pathlib import Path
 from typing import TextIO
 
 from job_host.catalogue import jsl, jsl_text
-from job_host.catalogue.check import Checked, ask, check, jobs_in
+from job_host.catalogue.check import Checked, check, jobs_in
 from job_host.catalogue.diagram import draw
 from job_host.catalogue.diff import compare
 from job_host.catalogue.faults import Fault, Note, NoVerdict
@@ -22,6 +22,7 @@ from job_host.catalogue.growth import changed_jobs, is_begun_by
 from job_host.catalogue.schema import schema_of_catalogues
 from job_host.catalogue.text import laid_out, one_line, plain
 from job_host.catalogue.tree import count_elements
+from job_host.catalogue.verdicts import Verdict, ask
 from job_host.commands.program import find_batchctl
 from job_host.protocol.lines import compact
 from job_host.protocol.printable import printable
@@ -115,10 +116,14 @@ def folder_of(name: str, given: argparse.Namespace) -> JobFolder:
 
 
 def check_folder(folder: JobFolder, batchctl: Sequence[str], given: argparse.Namespace) -> int:
-    """Checks each file of a folder, and tells what no file has by itself."""
+    """Checks each file of a folder, and tells what no file has by itself.
+
+    batchctl is asked of all files at once: if it takes them, it takes each.
+    """
     verdicts = list[bool]()
+    taken = Verdict(None) if not folder.refused and ask(batchctl, folder.line).answer is None else None
     for file in folder.files:
-        checked = check(file, batchctl, given.artifacts)
+        checked = check(file, batchctl, given.artifacts, taken)
         FORMATS[given.format](checked, sys.stdout)
         verdicts.append(checked.is_accepted)
     for line in folder.beside:

@@ -7,10 +7,10 @@ import json
 from collections.abc import AsyncIterator, Awaitable, Callable, Sequence
 from contextlib import asynccontextmanager
 
-from job_host.catalogue import check
 from job_host.catalogue.faults import NoVerdict
 from job_host.catalogue.folder import unknown_queue
 from job_host.catalogue.jobs import JobFile, JobsRefused, ServedJobs
+from job_host.catalogue.verdicts import ask
 from job_host.catalogue.versions import ReadJob, read_job
 from job_host.protocol.lines import compact
 from job_host.service.keepers.folder_changes import FolderChanges, folder_changes, is_newest, told_elsewhere, version_of
@@ -168,9 +168,9 @@ def keyed_by(call: Call) -> KeyedBy | None:
 
 def check_folder(batchctl: Sequence[str], served: ServedJobs) -> None:
     """Raises JobsRefused if batchctl refuses the jobs of a folder, and NoVerdict."""
-    answer = check.ask(batchctl, served.line).answer
+    answer = ask(batchctl, served.line).answer
     if answer is not None:
-        raise JobsRefused([served.told_fault(compact(answer))])
+        raise JobsRefused([served.told_fault(compact(answer), batchctl)])
 
 
 def kept_change(book: JobBook, client: str, key: str, term: Term) -> KeptRequest | None:

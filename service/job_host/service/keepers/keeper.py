@@ -421,7 +421,8 @@ async def check_catalogue(batchctl: Sequence[str], served: ServedJobs) -> None:
     try:
         process = await CoProcess.start([*batchctl, "script"], served.line)
     except CatalogueRefused as fault:
-        raise Fatal(f"the catalogue was refused: {served.told_fault(fault.fault)}") from fault
+        told = await asyncio.to_thread(served.told_fault, fault.fault, batchctl)
+        raise Fatal(f"the catalogue was refused: {told}") from fault
     except (FileNotFoundError, PermissionError) as fault:
         raise Fatal(f"there is no program {batchctl[0]}: {fault}") from fault
     await process.close()

@@ -7,7 +7,7 @@ from collections.abc import Callable, Collection, Mapping, Sequence
 from typing import Any
 
 from job_host.catalogue.jobs import ForWorkers, JobFile, jobs_of
-from job_host.catalogue.structure import MOST_JOBS
+from job_host.catalogue.forms import MOST_JOBS
 from job_host.catalogue.text import MOST_LINE_BYTES
 from job_host.catalogue.names import VERSIONED_NAMES, id_of
 from job_host.protocol.lines import compact
