@@ -27,10 +27,12 @@ from threading import get_ident
 
 from log_trial.log_file import BASE, CATALOGUE, OPERATION, SHUT, Record, catalogue_record, log_of, operation_record, read
 from log_trial.script import Script, accepted_of
-from program import CRATE, DONE, LOG_REFUSED, Ended, Program, Wrong, cut_of, over, says_cut, tail_of
+from program import CRATE, DONE, FAULTY_CATALOGUE, LOG_REFUSED, Ended, Program, Wrong, cut_of, over, says_cut, tail_of
 from repository import ROOT
 
-STARTS, SCRIPT = (Path(__file__).with_name(f"growth.{ending}") for ending in ("run", "script"))
+STARTS, SCRIPT, CHECKED = (Path(__file__).with_name(f"growth.{ending}") for ending in ("run", "script", "check"))
+# What is told of the catalogue of `CHECKED`.
+FAULT = b'{"byte":71,"fault":"NoSuchTarget","job":0,"member":"jobs[0].elements[0].next"}\n'
 # A script that goes on from a log with so many of its lines. Its replies were worked out by hand.
 CONTINUED = ROOT / "cases" / "scripts" / "stopped_chunk.script"
 BEGUN = 10
@@ -273,6 +275,7 @@ CASES = [
     *over_opened_logs(continued()),
     *over_refused_logs(continued()),
     Case(("run", "--workers", "1"), STARTS, frozenset(faulted_lines(1) | faulted_lines(2))),
+    Case(("check",), CHECKED, due=(FAULTY_CATALOGUE, FAULT)),
 ]
 
 
