@@ -18,7 +18,7 @@ from job_host.service.versions.changes import Change, Growth, digest_of, digest_
 from job_host.service.versions.files import JobFiles
 
 # Takes each catalogue, as batchctl does one without faults.
-ACCEPTS = ("sh", "-c", "cat > /dev/null")
+ACCEPTS = ("sh", "-c", """cat > /dev/null; echo '{"jobs":1}'""")
 
 
 def file_of(limit: int, settings: str | None) -> JobFile:
