@@ -129,13 +129,21 @@ def embedded(tmp_path: Path, catalogue: Path, has_log: None) -> Callable[..., Se
     return make
 
 
-@pytest.fixture(params=["stand_in", "batchctl"])
-def compactor(request: pytest.FixtureRequest) -> tuple[str, ...]:
-    """A program that compacts a log: a stand-in, and batchctl if it can."""
-    batchctl = (str(STAND_IN),) if request.param == "stand_in" else find_batchctl(None)
-    if not can_compact(batchctl):
-        pytest.skip("this batchctl has no `script --compact`")
-    return batchctl
+@pytest.fixture(scope="session")
+def one_compactor() -> tuple[str, ...]:
+    """A program that compacts a log: batchctl if it can, else a stand-in."""
+    batchctl = find_batchctl(None)
+    return batchctl if can_compact(batchctl) else (str(STAND_IN),)
+
+
+@pytest.fixture
+def stand_in() -> None:
+    """A test that takes this has a stand-in for batchctl, whose compactions fail when they are told to."""
+
+
+@pytest.fixture
+def compactor(request: pytest.FixtureRequest, one_compactor: tuple[str, ...]) -> tuple[str, ...]:
+    return (str(STAND_IN),) if "stand_in" in request.fixturenames else one_compactor
 
 
 @pytest.fixture
@@ -158,13 +166,6 @@ def basing(compactor: tuple[str, ...], dsn: str, catalogue: Path) -> Callable[..
         return ServeSettings(catalogue=given.pop("catalogue", catalogue), batchctl=compactor, **given)
 
     return make
-
-
-@pytest.fixture(scope="session")
-def one_compactor() -> tuple[str, ...]:
-    """batchctl if it compacts a log, else a stand-in: for tests that are of the service alone."""
-    batchctl = find_batchctl(None)
-    return batchctl if can_compact(batchctl) else (str(STAND_IN),)
 
 
 @pytest.fixture(params=["postgres", "log"])

@@ -31,10 +31,8 @@ Make = Callable[..., ServeSettings]
 
 
 @pytest.fixture
-def stand_in(request: pytest.FixtureRequest, compacting: Make) -> Make:
-    """Settings of a service over the stand-in alone, whose compactions can be made to fail."""
-    if "stand_in" not in request.node.callspec.id:
-        pytest.skip("only the stand-in fails when it is told to")
+def stand_in(compacting: Make) -> Make:
+    """Settings of a service over the stand-in, whose compactions can be made to fail."""
     return compacting
 
 

@@ -228,9 +228,7 @@ async def test_batchctl_has_the_last_word(served: ServeSettings, monkeypatch: py
         assert [await claimed(caller) for _ in range(2)] == [(4, "version 4 of later"), (5, "version 2 of day-2")]
 
 
-async def test_a_refused_compaction_lets_nothing_leave(kept: ServeSettings, request: pytest.FixtureRequest) -> None:
-    if "stand_in" not in request.node.callspec.id:
-        pytest.skip("it takes a program that refuses memory")
+async def test_a_refused_compaction_lets_nothing_leave(kept: ServeSettings, stand_in: None) -> None:
     async with running(kept) as instance:
         caller = Caller(instance.url)
         await make_versions(caller)

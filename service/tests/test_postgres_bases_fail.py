@@ -52,10 +52,8 @@ STEPS: dict[str, tuple[Any, str, bool, int]] = {
 
 
 @pytest.fixture
-def stand_in(request: pytest.FixtureRequest, basing: Make) -> Make:
-    """Settings of a service over the stand-in alone, which fails when it is told to. Some tests are of the tables alone."""
-    if "stand_in" not in request.node.callspec.id:
-        pytest.skip("batchctl isn't tested by this")
+def stand_in(basing: Make) -> Make:
+    """Settings of a service over the stand-in, which fails when it is told to. Some tests are of the tables alone."""
     return basing
 
 
