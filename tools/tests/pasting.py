@@ -56,6 +56,7 @@ INSTEAD = {
     "service/soak.py postgres --kills 200": "service/soak.py --help > /dev/null",
     "service/soak.py standby --kills 20": ":",
     "service/soak.py embedded --kills 200": ":",
+    "service/soak.py embedded --kills 200 --queues": ":",
     "service/soak_changes.py": "service/soak_changes.py --help > /dev/null",
     "service/soak_fleet.py": "service/soak_fleet.py --help > /dev/null",
     "service/soak_nights.py embedded": "service/soak_nights.py --help > /dev/null",
