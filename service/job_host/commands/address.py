@@ -10,7 +10,7 @@ import socket
 from pathlib import Path
 
 from job_host.protocol.addresses import DEFAULT_URL
-from job_host.protocol.client import Address, read_token, urls_of
+from job_host.protocol.client import Address, read_token, separated
 
 Subcommands = argparse._SubParsersAction  # argparse has no public name for it
 
@@ -33,7 +33,7 @@ def add_address(parser: argparse.ArgumentParser, own_name: str = OWN_NAME) -> No
 def address_of(given: argparse.Namespace) -> Address:
     """Where the service is, by options or by the environment."""
     client = given.client or own_name()
-    return Address(urls_of(given.url), client, read_token(given.token), given.authority, given.patience)
+    return Address(separated(given.url), client, read_token(given.token), given.authority, given.patience)
 
 
 def own_name() -> str:

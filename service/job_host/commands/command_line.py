@@ -213,7 +213,8 @@ def run_worker(given: argparse.Namespace) -> int:
     import asyncio
 
     from job_host.commands.address import address_of
-    from job_host.worker.worker import WorkerSettings, WorkOf, names_of, work, worker_address
+    from job_host.protocol.client import separated
+    from job_host.worker.worker import WorkerSettings, WorkOf, work, worker_address
 
     begin_log("jobhost worker")
     if not given.artifacts.is_dir() or not 1 <= given.slots <= MOST_SLOTS:
@@ -223,7 +224,7 @@ def run_worker(given: argparse.Namespace) -> int:
         print("jobhost worker: --once has one slot, and --wait is for --once", file=sys.stderr)
         return 2
     once = None if not given.once else ONCE_SECONDS if given.wait is None else given.wait
-    of = WorkOf(names_of(given.queues), names_of(given.labels))
+    of = WorkOf(separated(given.queues), separated(given.labels))
     settings = WorkerSettings(given.artifacts.resolve(), given.slots, given.system_property, given.grace, once, of)
     return asyncio.run(work(worker_address(address_of(given), given.client), settings))
 

@@ -184,9 +184,9 @@ def read_token(path: Path | None) -> str | None:
     return path.read_text().strip() if path is not None else None
 
 
-def urls_of(text: str) -> tuple[str, ...]:
-    """URLs of the instances of one service, with commas between them."""
-    return tuple(url.strip() for url in text.split(",") if url.strip())
+def separated(text: str) -> tuple[str, ...]:
+    """What stands in a text with commas between: the URLs of one service's instances, or names."""
+    return tuple(part.strip() for part in text.split(",") if part.strip())
 
 
-__all__: Sequence[str] = ["Address", "Client", "Document", "Refused", "Unreachable", "read_token", "urls_of"]
+__all__: Sequence[str] = ["Address", "Client", "Document", "Refused", "Unreachable", "read_token", "separated"]

@@ -146,11 +146,6 @@ class Batchlet:
             ending.cancel()
 
 
-def names_of(text: str) -> tuple[str, ...]:
-    """Names with commas between them."""
-    return tuple(name.strip() for name in text.split(",") if name.strip())
-
-
 @dataclass(frozen=True)
 class WorkOf:
     """The queues whose work a worker runs, in its order, and what it has that they may want. None is the default one."""
